@@ -14,5 +14,5 @@ returns c =
     let t : ℕ = c .args .moment in
     record {
       counts-the-table =
-          omega (arith, capacity-times (λ k. min k 1000000) ticks t (t / ticks) (omega arith) (λ k a b le. omega arith) (λ k a b le. omega arith))
+          omega (arith, capacity-times (λ k. min k 1000000) ticks t (t / ticks) (omega arith) (λ k a b le. omega arith) (λ k a b le. omega arith));
     }

@@ -15,5 +15,5 @@ returns c =
     let t : ℕ = c .args .moment in
     record {
       counts-the-table =
-          omega (arith, ap (λ (lot : ℕ). t / ticks / lot * lot) (c .max-lot .ensures), capacity-lots (max (c .args .terms .lot) 1) (omega arith) ticks t (omega arith))
+          omega (arith, ap (λ (lot : ℕ). t / ticks / lot * lot) (c .max-lot .ensures), capacity-lots (max (c .args .terms .lot) 1) (omega arith) ticks t (omega arith));
     }

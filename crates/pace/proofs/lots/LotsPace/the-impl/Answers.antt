@@ -15,5 +15,8 @@ never-falls-law s t k fit =
 
 pub within-the-latest-moment-law : need.within-the-latest-moment-law
 within-the-latest-moment-law s t k fit =
-    omega (arith, times-within (rounded-up (min k 1000000) (max (t .lot) 1)) 1065534 (t .ticks)
-    (omega (arith, fit .lot, rounded-below (max (t .lot) 1) (omega arith) (min k 1000000))) (fit .ticks))
+    omega (
+      arith,
+      times-within (rounded-up (min k 1000000) (max (t .lot) 1)) 1065534 (t .ticks)
+          (omega (arith, fit .lot, rounded-below (max (t .lot) 1) (omega arith) (min k 1000000))) (fit .ticks),
+    )
