@@ -1,0 +1,4 @@
+pub mod Numbers
+pub mod Standing
+pub mod Calls
+pub mod Refusals

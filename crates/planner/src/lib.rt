@@ -1,0 +1,11 @@
+// The planner: musters and books, and the calls that are put to them.
+mod lookup;
+mod machine;
+mod refusal;
+
+pub use machine::Machine;
+pub use machine::MachineDebug;
+pub use machine::MachinePartialEq;
+pub use refusal::Refusal;
+pub use refusal::RefusalDebug;
+pub use refusal::RefusalPartialEq;

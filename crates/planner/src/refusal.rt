@@ -1,0 +1,52 @@
+// Why a call is refused. The first check that applies, in the order of the call's checks, is told.
+ghost use mathlib.Core.Path.{_≡_};
+ghost use mathlib.Core.Bool.{cond};
+ghost use Rattle.std.specs.declared.option.Option.the-variants.{Some, None};
+ghost use Rattle.planner.specs.Numbers.{outside};
+ghost use Rattle.planner.specs.Refusals.{case-of, refusal-in};
+
+#[derive(Clone, Copy, PartialEq, Eq, Debug)]
+pub enum Refusal {
+    // for what was handed in: outside its range
+    MachineNumber = 11,
+    Ticks = 12,
+    Lot = 13,
+    Backlog = 14,
+    BatchNumber = 15,
+    Blocks = 16,
+    // no holder, or more than 32
+    HolderCount = 17,
+    // not strictly ascending
+    HolderOrder = 18,
+    // for how the book stands
+    MachineStands = 41,
+    MachinesFull = 42,
+    MachineUnknown = 43,
+    BatchesFull = 44,
+    OtherHolders = 45,
+    // the batch would pass 99,999 blocks
+    BatchPasses = 46,
+    // the book would pass 1,000,000 blocks
+    BookPasses = 47,
+    BatchUnknown = 48,
+    // the batch has fewer blocks
+    BatchFewer = 49,
+}
+
+impl Refusal {
+    pub fn number(self) -> u8
+        ensures is_the_number_of_its_case { λ r. ⌜ r ≡ case-of self .number ⌝ }
+    {
+        self as u8
+    }
+}
+
+// Refuses a value outside its range.
+pub(crate) fn in_range(value: u32, low: u32, high: u32, refusal: Refusal) -> Result<(), Refusal>
+    ensures refuses_just_what_is_outside { λ r. ⌜ refusal-in r ≡ cond (outside low high value) (Some refusal) None ⌝ }
+{
+    if value < low || high < value {
+        return Err(refusal);
+    }
+    Ok(())
+}
