@@ -5,6 +5,7 @@ ghost use lib.ListN.{length};
 
 mod methods;
 
+#[derive(Drop)]
 pub struct FixedVec<T, const N: usize> {
     // the items, and after them whatever the unused places hold
     places: [T; N],

@@ -1,1 +1,4 @@
 mod Orders
+mod Checks
+mod Records
+mod Enlisting

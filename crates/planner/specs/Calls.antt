@@ -6,19 +6,19 @@ use Rattle.planner.specs.declared.machine.Machine.{Machine}
 use Rattle.planner.specs.Standing.{Standing, with-machine, more-blocks, fewer-blocks}
 
 pub data Call : Type 0 where
-  -- a machine's number, ticks, lot and backlog
-  Enlist : ℕ → ℕ → ℕ → ℕ → Call
+  Enlist : Machine → Call
   Open : Call
   -- a batch's number, how many blocks more, and the machine numbers of its holders
   Hold : ℕ → ℕ → List ℕ → Call
   -- a batch's number and how many blocks fewer
   Drop : ℕ → ℕ → Call
 
+-- a machine by its number, ticks, lot and backlog
 abbrev pub machine : ℕ → ℕ → ℕ → ℕ → Machine
 machine n ticks lot backlog = record { number = n; terms = record { ticks = ticks; lot = lot; backlog = backlog } }
 
 abbrev pub after : Call → Standing → Standing
-after (Enlist n t l b) s = record { machines = with-machine (machine n t l b) (s .machines); batches = s .batches }
+after (Enlist m) s = record { machines = with-machine m (s .machines); batches = s .batches }
 after Open s = s
 after (Hold b n hs) s = record { machines = s .machines; batches = more-blocks b n hs (s .batches) }
 after (Drop b n) s = record { machines = s .machines; batches = fewer-blocks b n (s .batches) }

@@ -1,4 +1,6 @@
 pub mod Numbers
+pub mod Ranges
 pub mod Standing
 pub mod Calls
 pub mod Refusals
+pub mod Views

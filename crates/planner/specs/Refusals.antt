@@ -27,7 +27,7 @@ pub record Handed : Type 0 where
   pub holders : List ℕ
 
 abbrev pub handed : Call → Handed
-handed (Enlist n t l b) = record { machine = machine n t l b; batch = 0; blocks = 0; holders = [] }
+handed (Enlist m) = record { machine = m; batch = 0; blocks = 0; holders = [] }
 handed Open = record { machine = machine 0 0 0 0; batch = 0; blocks = 0; holders = [] }
 handed (Hold b n hs) = record { machine = machine 0 0 0 0; batch = b; blocks = n; holders = hs }
 handed (Drop b n) = record { machine = machine 0 0 0 0; batch = b; blocks = n; holders = [] }
@@ -71,7 +71,7 @@ case-of BatchUnknown = tells 48 (λ h s. not (among (h .batch) (batch-numbers (s
 case-of BatchFewer = tells 49 (λ h s. ltb (blocks-of (h .batch) (s .batches)) (h .blocks))
 
 abbrev pub checks : Call → List Refusal
-checks (Enlist _ _ _ _) = MachineNumber ∷ Ticks ∷ Lot ∷ Backlog ∷ MachineStands ∷ MachinesFull ∷ []
+checks (Enlist _) = MachineNumber ∷ Ticks ∷ Lot ∷ Backlog ∷ MachineStands ∷ MachinesFull ∷ []
 checks Open = []
 checks (Hold _ _ _) = BatchNumber ∷ Blocks ∷ HolderCount ∷ HolderOrder ∷ MachineUnknown ∷ OtherHolders ∷ BatchesFull ∷ BatchPasses ∷ BookPasses ∷ []
 checks (Drop _ _) = BatchNumber ∷ Blocks ∷ BatchUnknown ∷ BatchFewer ∷ []

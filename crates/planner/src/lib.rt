@@ -2,6 +2,7 @@
 mod lookup;
 mod machine;
 mod refusal;
+mod roster;
 
 pub use machine::Machine;
 pub use machine::MachineDebug;

@@ -41,12 +41,19 @@ impl Refusal {
     }
 }
 
+// A check of a call: refuses where it applies.
+pub(crate) fn refuse_if(applies: bool, refusal: Refusal) -> Result<(), Refusal>
+    ensures refuses_just_where_it_applies { λ r. ⌜ refusal-in r ≡ cond applies (Some refusal) None ⌝ }
+{
+    if applies {
+        return Err(refusal);
+    }
+    Ok(())
+}
+
 // Refuses a value outside its range.
 pub(crate) fn in_range(value: u32, low: u32, high: u32, refusal: Refusal) -> Result<(), Refusal>
     ensures refuses_just_what_is_outside { λ r. ⌜ refusal-in r ≡ cond (outside low high value) (Some refusal) None ⌝ }
 {
-    if value < low || high < value {
-        return Err(refusal);
-    }
-    Ok(())
+    refuse_if(value < low || high < value, refusal)
 }

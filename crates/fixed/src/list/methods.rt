@@ -2,6 +2,7 @@
 ghost use mathlib.Core.Path.{_≡_};
 ghost use mathlib.Core.List.{[]};
 ghost use Prim.Native.Nat.{ℕ, _<_, _≤_};
+ghost use lib.Dec.{leb};
 ghost use lib.ListN.{length, set};
 ghost use Rattle.std.specs.Holes.{inserted, removed};
 ghost use Rattle.fixed.specs.Items.{items};
@@ -23,6 +24,12 @@ impl<T: Copy, const N: usize> FixedVec<T, N> {
     {
         let all = &self.places[..];
         &all[0..self.count]
+    }
+
+    pub fn is_full(&self) -> bool
+        ensures tells_whether_there_is_no_room { λ r. ⌜ r ≡ leb N (length (items (now (self .entry)))) ⌝ }
+    {
+        self.count == N
     }
 
     // Puts the item at the place, and those from there on one further.
