@@ -2,3 +2,4 @@ mod Orders
 mod Checks
 mod Records
 mod Enlisting
+mod Holders

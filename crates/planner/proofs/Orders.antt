@@ -1,13 +1,13 @@
 -- Lists in ascending number.
 use mathlib.Core.Path.{_≡_, refl, sym, ap, _∙_}
 use mathlib.Core.Logic.{⊎-elim}
-use mathlib.Core.Bool.{true}
+use mathlib.Core.Bool.{true, _&&_}
 use mathlib.Core.List.{List, [], _∷_, map}
 use Prim.Native.Nat.{ℕ, zero, suc, _+_, _<_, _≤_}
 use native.Mathlib.Omega.{arith}
 use lib.Dec.{ltb}
-use lib.ListN.{length, getD}
-use Rattle.std.proofs.shelf.Lists.{getD-map}
+use lib.ListN.{length, getD, drop}
+use Rattle.std.proofs.shelf.Lists.{getD-map, drop-more, drop-all}
 use Rattle.std.proofs.shelf.Tests.{and-parts, ltb-true, cases-lt}
 use Rattle.planner.specs.Numbers.{rising, ascending, Found, Missing}
 
@@ -60,3 +60,14 @@ between-missing n ns low high b met within = record { within = within; lower = b
 -- the number of a record that was read
 pub key-at : {R : Type 0} (key : R → ℕ) (rs : List R) (i : ℕ) (r : R) → i < length rs → r ≡ getD rs i r → getD (map key rs) i 0 ≡ key r
 key-at key rs i r lt is = getD-map key rs i r 0 lt ∙ ap key (sym is)
+
+-- a walk over a list that looks whether it ascends: p is the number before the place i
+pub ascending-start : (ns : List ℕ) → ascending ns ≡ rising (getD ns 0 0) (drop 1 ns)
+ascending-start [] = refl
+ascending-start (n ∷ ns) = refl
+
+pub rising-more : (p : ℕ) (ns : List ℕ) (i : ℕ) → i < length ns → rising p (drop i ns) ≡ (ltb p (getD ns i 0) && rising (getD ns i 0) (drop (i + 1) ns))
+rising-more p ns i lt = ap (rising p) (drop-more ns i 0 lt)
+
+pub rising-end : (p : ℕ) (ns : List ℕ) (i : ℕ) → length ns ≤ i → rising p (drop i ns) ≡ true
+rising-end p ns i ge = ap (rising p) (drop-all i ns ge)

@@ -3,4 +3,5 @@ pub mod Ranges
 pub mod Standing
 pub mod Calls
 pub mod Refusals
+pub mod Holders
 pub mod Views
