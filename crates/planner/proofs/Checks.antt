@@ -61,3 +61,6 @@ stop {p = false} is some = absurd (let z : _≡_ {A = ℕ} 0 1 = cc in omega ari
 pub passed : {p : Bool} (r : Refusal) → None ≡ cond p (Some r) None → p ≡ false
 passed {p = true} r none = absurd (let z : _≡_ {A = ℕ} 0 1 = cc in omega arith)
 passed {p = false} r none = refl
+
+pub by-the-checks : (rs : List Refusal) (h : Handed) (s : Standing) {x : Option Refusal} → Way h s rs x → x ≡ first-of rs h s
+by-the-checks rs h s w = way-first w

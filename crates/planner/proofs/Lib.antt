@@ -3,3 +3,6 @@ mod Checks
 mod Records
 mod Enlisting
 mod Holders
+mod Batches
+mod Tables
+mod Changes

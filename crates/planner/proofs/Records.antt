@@ -108,13 +108,13 @@ module _ {R : Type 0} (p : R → Bool) where
       let parts = and-parts (p x) (all p xs) each in
       and-from (p x) (all p (removed xs i)) (parts .0) (all-removed xs i (parts .1))
 
-  pub all-set : (rs : List R) (i : ℕ) (r : R) → all p rs ≡ true → p r ≡ true → all p (set rs i r) ≡ true
-  all-set [] zero r each new = refl
-  all-set [] (suc i) r each new = refl
-  all-set (x ∷ xs) zero r each new = and-from (p r) (all p xs) new (and-parts (p x) (all p xs) each .1)
-  all-set (x ∷ xs) (suc i) r each new =
+  pub all-replaced : (rs : List R) (i : ℕ) (r : R) → all p rs ≡ true → p r ≡ true → all p (set rs i r) ≡ true
+  all-replaced [] zero r each new = refl
+  all-replaced [] (suc i) r each new = refl
+  all-replaced (x ∷ xs) zero r each new = and-from (p r) (all p xs) new (and-parts (p x) (all p xs) each .1)
+  all-replaced (x ∷ xs) (suc i) r each new =
       let parts = and-parts (p x) (all p xs) each in
-      and-from (p x) (all p (set xs i r)) (parts .0) (all-set xs i r (parts .1) new)
+      and-from (p x) (all p (set xs i r)) (parts .0) (all-replaced xs i r (parts .1) new)
 
   pub all-at : (rs : List R) (i : ℕ) (d : R) → all p rs ≡ true → i < length rs → p (getD rs i d) ≡ true
   all-at [] i d each lt = absurd (omega arith)

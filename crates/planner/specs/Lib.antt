@@ -5,3 +5,4 @@ pub mod Calls
 pub mod Refusals
 pub mod Holders
 pub mod Views
+pub mod Edits

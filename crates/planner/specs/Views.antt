@@ -1,13 +1,26 @@
 -- What stands in a muster and in a book, as their tables show it.
-use mathlib.Core.List.{List, []}
+--   machines-of r     the machines of a roster
+--   mustered r        what stands in a muster: machines, and no batch yet
+--   batch-of ms b     the batch b as it stands, with the numbers of its holders among the machines ms
+--   standing-of b     what stands in a book
+use mathlib.Core.List.{List, [], map}
 use Rattle.fixed.specs.Items.{items}
+use Rattle.places.specs.Has.{has}
 use Rattle.planner.specs.declared.machine.Machine.{Machine}
+use Rattle.planner.specs.declared.batch.Batch.{Batch}
 use Rattle.planner.specs.declared.roster.Roster.{Roster}
-use Rattle.planner.specs.Standing.{Standing}
+use Rattle.planner.specs.declared.book.Book.{Book}
+use Rattle.planner.specs.Standing.{Standing, Held}
+use Rattle.planner.specs.Holders.{numbers-at}
 
 abbrev pub machines-of : Roster → List Machine
 machines-of r = items (r .machines)
 
--- machines, and no batch yet
 abbrev pub mustered : Roster → Standing
 mustered r = record { machines = machines-of r; batches = [] }
+
+abbrev pub batch-of : List Machine → Batch → Held
+batch-of ms b = record { number = b .number; blocks = b .blocks; holders = numbers-at (has (b .holders)) ms }
+
+abbrev pub standing-of : Book → Standing
+standing-of b = record { machines = machines-of (b .roster); batches = map (batch-of (machines-of (b .roster))) (items (b .batches)) }

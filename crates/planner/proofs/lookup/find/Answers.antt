@@ -20,6 +20,7 @@ returns-then-here-number g c =
     let middle : ℕ = c .loop-low .low + (c .loop-low .high - c .loop-low .low) / 2 in
     let read = key-at (g .R·Numbered .key) rs middle (c .index-records-middle .result) (omega arith) (c .index-records-middle .is) in
     record {
+      stays-within-the-records = omega arith;
       finds-the-place = λ up.
           between-found (c .args .number) (map (g .R·Numbered .key) rs) (c .loop-low .low) (c .loop-low .high) middle up
           (omega (arith, length-map rs (g .R·Numbered .key))) (omega (arith, read));
@@ -52,6 +53,7 @@ loop-low-again g c =
 pub returns : need.returns
 returns g c =
     record {
+      stays-within-the-records = omega arith;
       finds-the-place = λ up.
           between-missing (c .args .number) (map (g .R·Numbered .key) (c .args .records .now)) (c .loop-low .low) (c .loop-low .high)
           (c .loop-low .inv .2 up) (omega arith) (omega (arith, length-map (c .args .records .now) (g .R·Numbered .key)));
