@@ -18,12 +18,16 @@ use Rattle.planner.specs.declared.batch.Batch.{Batch}
 use Rattle.planner.specs.Numbers.{among, ascending, outside, Found, Missing}
 use Rattle.planner.specs.Ranges.{batch-in-range, some-below, no-batch, Manned}
 use Rattle.planner.specs.Standing.{Held, machine-numbers, batch-numbers, blocks-of, holders-of, more-blocks, fewer-blocks}
-use Rattle.planner.specs.Refusals.{same}
+use Rattle.std.specs.declared.option.Option.the-variants.{None}
+use Rattle.planner.specs.declared.refusal.Refusal.the-variants.{HolderCount, HolderOrder, MachineUnknown}
+use Rattle.planner.specs.Calls.{Hold}
+use Rattle.planner.specs.Refusals.{same, handed, first-of}
 use Rattle.planner.specs.Holders.{numbers-at}
 use Rattle.fixed.specs.Items.{items}
 use Rattle.planner.specs.declared.book.Book.{Book}
-use Rattle.planner.specs.Views.{machines-of, batch-of}
+use Rattle.planner.specs.Views.{machines-of, batch-of, standing-of}
 use Rattle.planner.specs.Edits.{Sound, Asked}
+use Rattle.planner.proofs.Checks.{first-passed}
 use Rattle.planner.proofs.Orders.{key-at}
 use Rattle.planner.proofs.Records.{found-among, missing-among, ascending-inserted, ascending-removed, all-inserted, all-removed, all-replaced, all-at}
 use Rattle.planner.proofs.Holders.{numbers-same, places-same, some-held}
@@ -212,3 +216,27 @@ module _ (ms : List Machine) (bs : List Batch) where
 -- what the type of a book keeps
 pub kept : (b : Book) → Sound (length (machines-of (b .roster))) (items (b .batches)) (b .blocks)
 kept b = record { ascends = b .ascends; in-range = b .«in_range»; manned = b .«held_by_machines»; summed = b .summed }
+
+-- what a hold asks for once its ranges and its holders are checked
+pub asked-from : (ms : List Machine) (bs : List Held) (b n : ℕ) (p : Places) (hs : List ℕ)
+    → true ≡ (not (outside 1 99999 b) && not (outside 1 99999 n))
+    → None ≡ first-of (HolderCount ∷ HolderOrder ∷ MachineUnknown ∷ []) (handed (Hold b n hs)) (record { machines = ms; batches = bs })
+    → numbers-at (has p) ms ≡ hs → ((k : ℕ) → has p k ≡ true → k < length ms) → Asked ms b n p hs
+asked-from ms bs b n p hs ranges holders just inside =
+    let parts = and-parts (not (outside 1 99999 b)) (not (outside 1 99999 n)) (sym ranges) in
+    record {
+      number-in-range = not-true _ (parts .0);
+      blocks-in-range = not-true _ (parts .1);
+      some = in-range 1 32 (length hs)
+          (first-passed HolderCount (HolderOrder ∷ MachineUnknown ∷ []) (handed (Hold b n hs)) (record { machines = ms; batches = bs }) holders) .0;
+      just = just;
+      within = inside;
+    }
+
+-- a book with the same machines and these batches
+pub standing-written : (old new : Book) (bs : List Batch) (after : List Held) → items (new .batches) ≡ bs → new .roster ≡ old .roster
+    → map (batch-of (machines-of (old .roster))) bs ≡ after → standing-of new ≡ record { machines = machines-of (old .roster); batches = after }
+standing-written old new bs after written machines view =
+    ap (λ r. record { machines = machines-of r; batches = map (batch-of (machines-of r)) (items (new .batches)) }) machines
+    ∙ ap (λ cs. record { machines = machines-of (old .roster); batches = map (batch-of (machines-of (old .roster))) cs }) written
+    ∙ ap (λ hs. record { machines = machines-of (old .roster); batches = hs }) view

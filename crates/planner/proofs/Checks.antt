@@ -64,3 +64,12 @@ passed {p = false} r none = refl
 
 pub by-the-checks : (rs : List Refusal) (h : Handed) (s : Standing) {x : Option Refusal} → Way h s rs x → x ≡ first-of rs h s
 by-the-checks rs h s w = way-first w
+
+-- where none of some checks applies, the first one does not
+pub first-passed : (r : Refusal) (rs : List Refusal) (h : Handed) (s : Standing) → None ≡ first-of (r ∷ rs) h s → case-of r .applies h s ≡ false
+first-passed r rs h s none =
+    ⊎-elim (λ yes-it-does. absurd (never (none ∙ cond-true (case-of r .applies h s) (Some r) (first-of rs h s) yes-it-does))) (λ not-this. not-this)
+    (cases-bool (case-of r .applies h s))
+  where
+    never : _≡_ {A = Option Refusal} None (Some r) → ⊥
+    never e = let z : _≡_ {A = ℕ} 0 1 = cc in omega arith
