@@ -6,3 +6,4 @@ pub mod Refusals
 pub mod Holders
 pub mod Views
 pub mod Edits
+pub mod States

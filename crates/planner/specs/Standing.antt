@@ -1,6 +1,7 @@
 -- What stands in a muster or a book: its machines and its batches, both in ascending number.
 --   Held                        a batch: its number, its blocks, and the machine numbers of its holders
---   machine-numbers, batch-numbers
+--   nothing                     what stands in a new muster
+--   machine-numbers ms, batch-numbers bs
 --   blocks-of b bs              the blocks of the batch b, and 0 where it does not stand
 --   holders-of b bs             its holders, and none where it does not stand
 --   all-blocks bs               the blocks of all batches
@@ -21,6 +22,9 @@ pub record Held : Type 0 where
 pub record Standing : Type 0 where
   pub machines : List Machine
   pub batches : List Held
+
+abbrev pub nothing : Standing
+nothing = record { machines = []; batches = [] }
 
 abbrev pub machine-numbers : List Machine → List ℕ
 machine-numbers ms = map (λ m. m .number) ms
