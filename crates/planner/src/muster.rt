@@ -1,10 +1,14 @@
 // A muster: machines are enlisted, and then the book is opened.
 ghost use mathlib.Core.Path.{_≡_};
 ghost use mathlib.Core.Bool.{true, false};
+ghost use Prim.Native.Nat.{_≤_};
+ghost use lib.ListN.{length};
 ghost use Rattle.std.specs.Results.{isOk};
 ghost use Rattle.planner.specs.Calls.{Enlist, machine, after};
+ghost use Rattle.planner.specs.Numbers.{ascending};
+ghost use Rattle.planner.specs.Ranges.{all, machine-in-range};
 ghost use Rattle.planner.specs.Refusals.{first-refusal, refusal-in};
-ghost use Rattle.planner.specs.Standing.{nothing};
+ghost use Rattle.planner.specs.Standing.{nothing, machine-numbers};
 ghost use Rattle.planner.specs.States.{in-muster, in-book};
 use crate::book::Book;
 use crate::machine::Machine;
@@ -37,6 +41,9 @@ impl<P> Muster<P> {
     // The machines, in ascending number.
     pub fn machines(&self) -> &[Machine]
         ensures lends_the_machines { λ r. ⌜ now r ≡ in-muster (now (self .entry)) .machines ⌝ }
+        ensures lends_them_in_ascending_number { λ r. ⌜ ascending (machine-numbers (now r)) ≡ true ⌝ }
+        ensures lends_each_in_its_ranges { λ r. ⌜ all machine-in-range (now r) ≡ true ⌝ }
+        ensures lends_at_most_32 { λ r. ⌜ length (now r) ≤ 32 ⌝ }
     {
         self.roster.machines()
     }

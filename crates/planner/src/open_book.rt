@@ -2,11 +2,14 @@
 ghost use mathlib.Core.Path.{_≡_};
 ghost use mathlib.Core.Bool.{true, false};
 ghost use mathlib.Core.List.{map};
+ghost use Prim.Native.Nat.{_≤_};
 ghost use lib.ListN.{length};
 ghost use Rattle.std.specs.Results.{isOk};
 ghost use Rattle.planner.specs.Calls.{Hold, Drop, after};
-ghost use Rattle.planner.specs.Ranges.{Manned};
+ghost use Rattle.planner.specs.Numbers.{ascending};
+ghost use Rattle.planner.specs.Ranges.{all, machine-in-range, batch-in-range, Manned, blocks-in};
 ghost use Rattle.planner.specs.Refusals.{first-refusal, refusal-in};
+ghost use Rattle.planner.specs.Standing.{machine-numbers};
 ghost use Rattle.planner.specs.States.{in-book};
 ghost use Rattle.planner.specs.Views.{batch-of};
 use crate::batch::Batch;
@@ -24,6 +27,9 @@ impl<P> OpenBook<P> {
     // The machines, in ascending number.
     pub fn machines(&self) -> &[Machine]
         ensures lends_the_machines { λ r. ⌜ now r ≡ in-book (now (self .entry)) .machines ⌝ }
+        ensures lends_them_in_ascending_number { λ r. ⌜ ascending (machine-numbers (now r)) ≡ true ⌝ }
+        ensures lends_each_in_its_ranges { λ r. ⌜ all machine-in-range (now r) ≡ true ⌝ }
+        ensures lends_at_most_32 { λ r. ⌜ length (now r) ≤ 32 ⌝ }
     {
         self.book.machines()
     }
@@ -31,7 +37,11 @@ impl<P> OpenBook<P> {
     // The batches, in ascending number. Their holders are places among the machines.
     pub fn batches(&self) -> &[Batch]
         ensures lends_the_batches { λ r. ⌜ map (batch-of (in-book (now (self .entry)) .machines)) (now r) ≡ in-book (now (self .entry)) .batches ⌝ }
+        ensures lends_them_in_ascending_number { λ r. ⌜ ascending (map (λ b. b .number) (now r)) ≡ true ⌝ }
+        ensures lends_each_in_its_ranges { λ r. ⌜ all (batch-in-range (length (in-book (now (self .entry)) .machines))) (now r) ≡ true ⌝ }
         ensures names_holders_by_places_of_machines { λ r. ⌜ Manned (length (in-book (now (self .entry)) .machines)) (now r) ⌝ }
+        ensures lends_at_most_128 { λ r. ⌜ length (now r) ≤ 128 ⌝ }
+        ensures lends_at_most_a_million_blocks { λ r. ⌜ blocks-in (now r) ≤ 1000000 ⌝ }
     {
         self.book.batches()
     }

@@ -60,10 +60,10 @@ impl<T: Copy, const N: usize> FixedVec<T, N> {
     }
 
     // Puts the item in the place of the one that stands there.
-    pub fn set(&mut self, at: usize, item: T)
+    pub fn replace(&mut self, at: usize, by: T)
         requires within { ⌜ at < length (items (now self)) ⌝ }
-        ensures replaces_the_item { λ _. ⌜ items (now (self .exit)) ≡ set (items (now (self .entry))) at item ⌝ }
+        ensures replaces_the_item { λ _. ⌜ items (now (self .exit)) ≡ set (items (now (self .entry))) at by ⌝ }
     {
-        self.places[at] = item;
+        self.places[at] = by;
     }
 }

@@ -149,7 +149,7 @@ impl Book {
     {
         match edit {
             Edit::Insert(at, batch) => self.batches.insert(at, batch),
-            Edit::Replace(at, batch) => self.batches.set(at, batch),
+            Edit::Replace(at, batch) => self.batches.replace(at, batch),
             Edit::Remove(at) => self.batches.remove(at),
         }
         self.blocks = blocks;
