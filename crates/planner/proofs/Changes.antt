@@ -136,10 +136,12 @@ module _ (ms : List Machine) (bs : List Batch) where
         equal-places : equal ≡ true → same hs (holders-of b (map (batch-of ms) bs)) ≡ true
         equal-places yes-equal =
             ap (same hs) (found-holders ∙ numbers-same (has (c .holders)) (has p) ms (decides .0 yes-equal) ∙ just) ∙ same-refl hs
+
         equal-numbers : same hs (holders-of b (map (batch-of ms) bs)) ≡ true → equal ≡ true
         equal-numbers yes-same =
             decides .1 (places-same (has (c .holders)) (has p) ms up (held-within manned) in-p
             (sym found-holders ∙ sym (same-eq hs (holders-of b (map (batch-of ms) bs)) yes-same) ∙ sym just))
+
         same-is : same hs (holders-of b (map (batch-of ms) bs)) ≡ equal
         same-is =
             ⊎-elim (λ yes-equal. equal-places yes-equal ∙ sym yes-equal)
@@ -162,11 +164,13 @@ module _ (ms : List Machine) (bs : List Batch) where
         where
           new : Batch
           new = record { number = c .number; blocks = n; holders = c .holders }
+
           same-numbers : map (λ d. d .number) (set bs i new) ≡ map (λ d. d .number) bs
           same-numbers =
               map-set (λ d. d .number) bs i new
               ∙ ap (set (map (λ d. d .number) bs) i) (sym (key-at (λ d. d .number) bs i c found-within read))
               ∙ set-getD (map (λ d. d .number) bs) i 0
+
           old : ((not (outside 1 99999 (c .number)) && not (outside 1 99999 (c .blocks))) ≡ true) × (some-below (length ms) (has (c .holders)) ≡ true)
           old = and-parts _ _ (ap (batch-in-range (length ms)) (sym (at-is c)) ∙ all-at (batch-in-range (length ms)) bs i c (s .in-range) found-within)
 

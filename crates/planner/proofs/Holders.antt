@@ -115,6 +115,7 @@ module _ (ms : List Machine) (ns : List ℕ) (held : ℕ → Bool) where
       where
         here : place < length ms
         here = omega (arith, f .within, length-map ms (λ m. m .number))
+
         behind : ascending ns ≡ true → (k : ℕ) → place ≤ k → held k ≡ false
         behind up k le = ⊎-elim (λ is. absurd (clash is)) (λ free. free) (cases-bool (held k))
           where
@@ -160,6 +161,7 @@ numbers-held held ms up k lt =
   where
     long : length (machine-numbers ms) ≡ length ms
     long = length-map ms (λ m. m .number)
+
     clash : among (getD (machine-numbers ms) k 0) (numbers-at held ms) ≡ true → held k ≡ true
     clash is =
         let p = numbers-from held ms (getD (machine-numbers ms) k 0) is in

@@ -1,4 +1,22 @@
 // Takes an office day in through the planner's calls, and prints what stands at its end.
+use std::io;
+
+mod day;
+mod standing;
 mod sums;
 
-fn main() {}
+use pace::Backlog;
+use pace::Even;
+
+fn main(rt: LibcRuntime) -> io::Result<()> {
+    let muster = day::muster(&rt)?;
+    let mut book = muster.open();
+    day::morning(&rt, &mut book)?;
+    day::afternoon(&rt, &mut book)?;
+    standing::print_machines(&rt, &book)?;
+    standing::print_batches(&rt, &book)?;
+    standing::print_sets(&rt, &book)?;
+    let pace = Backlog(Even);
+    standing::print_moment(&rt, &book, &pace, 5)?;
+    standing::print_moment(&rt, &book, &pace, 6)
+}

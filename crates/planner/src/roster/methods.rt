@@ -77,7 +77,10 @@ impl Roster {
         ensures holds_the_places_of_just_these_machines { λ r. ⌜ made r (λ p. numbers-at (has p) (machines-of (now (self .entry))) ≡ now (holders .entry)) ⌝ }
         ensures holds_places_of_machines_only { λ r. ⌜ made r (λ p. (k : ℕ) → has p k ≡ true → k < length (machines-of (now (self .entry)))) ⌝ }
     {
-        refuse_if(holders.len() < 1 || 32 < holders.len(), Refusal::HolderCount)?;
+        refuse_if(
+            holders.len() < 1 || 32 < holders.len(),
+            Refusal::HolderCount,
+        )?;
         refuse_if(!ascends(holders), Refusal::HolderOrder)?;
         self.known(holders)
     }

@@ -13,11 +13,12 @@ use Rattle.report.proofs.sums.all_capacities.Needs as need
 pub loop-machine-again : need.loop-machine-again
 loop-machine-again g c =
     let f : Machine → ℕ = λ m. capacity-of (g .M·Pace .table (c .args .meter .now) (m .terms)) (c .args .moment) in
-    let i : ℕ = c .loop-machine .machine-index in
-    (ap (λ (n : ℕ). n + c .capacity .result) (c .loop-machine .inv .0)
-    ∙ ap (λ (n : ℕ). sumBy f (take i (c .args .machines .now)) + n) (c .capacity .ensures .counts-the-table)
-    ∙ sym (sumBy-more f (c .args .machines .now) i (machine 0 0 0 0) (c .loop-machine-test .taken)),
-    omega arith)
+    let i : ℕ = c .loop-machine .machine-index in (
+      ap (λ (n : ℕ). n + c .capacity .result) (c .loop-machine .inv .0)
+          ∙ ap (λ (n : ℕ). sumBy f (take i (c .args .machines .now)) + n) (c .capacity .ensures .counts-the-table)
+          ∙ sym (sumBy-more f (c .args .machines .now) i (machine 0 0 0 0) (c .loop-machine-test .taken)),
+      omega arith,
+    )
 
 pub returns : need.returns
 returns g c =

@@ -14,6 +14,9 @@ pub returns-else-moment-backlog : need.returns-else-moment-backlog
 returns-else-moment-backlog g c =
     record {
       counts-the-table =
-          omega (arith, c .capacity .ensures .counts-the-table,
-          capacity-after-backlog (g .P·Pace .table (c .args .self .now .0) (c .args .terms)) (c .args .terms .backlog) (c .args .moment) (omega arith) (omega arith))
+          omega (
+            arith,
+            c .capacity .ensures .counts-the-table,
+            capacity-after-backlog (g .P·Pace .table (c .args .self .now .0) (c .args .terms)) (c .args .terms .backlog) (c .args .moment) (omega arith) (omega arith),
+          );
     }

@@ -127,9 +127,10 @@ returns-in-Continue-refuse-if-3 c =
           (c .in-Continue-refuse-if-3 .ensures tt .refuses-just-where-it-applies)
           (past (le-ltb 99999 _ (omega (arith, missing-blocks ms bs (c .args .number) (c .in-Err .at) miss, in-range 1 99999 (c .args .blocks) (asked .blocks-in-range) .1)))
           accepted)));
-      can-be-made =
-          (omega (arith, miss .within, length-map bs (λ b. b .number)),
-          leb-false 128 (length bs) (sym (c .is-full .ensures .tells-whether-there-is-no-room) ∙ room));
+      can-be-made = (
+        omega (arith, miss .within, length-map bs (λ b. b .number)),
+        leb-false 128 (length bs) (sym (c .is-full .ensures .tells-whether-there-is-no-room) ∙ room),
+      );
       leaves-the-batches-sound = λ hs asked. sound-inserted ms bs (c .args .number) (c .in-Err .at) miss (c .args .blocks) (c .args .self .now .blocks) (c .args .holders) hs asked (kept (c .args .self .now));
       adds-the-blocks = λ hs asked. view-inserted ms bs (c .args .number) (c .in-Err .at) miss (c .args .blocks) (c .args .self .now .blocks) (c .args .holders) hs asked;
     }

@@ -20,7 +20,7 @@ returns-then-numbers-i c =
     record {
       tells-whether-they-ascend =
           sym (c .loop-i .inv ∙ rising-more (getD ns (i - 1) 0) ns i (omega arith)
-          ∙ ap (λ t. t && rising (getD ns i 0) (drop (i + 1) ns)) (le-ltb (getD ns (i - 1) 0) (getD ns i 0) (omega arith)))
+          ∙ ap (λ t. t && rising (getD ns i 0) (drop (i + 1) ns)) (le-ltb (getD ns (i - 1) 0) (getD ns i 0) (omega arith)));
     }
 
 pub loop-i-again : need.loop-i-again
