@@ -5,4 +5,4 @@ use lib.ListN.{take}
 use Rattle.fixed.specs.declared.list.FixedVec.{FixedVec}
 
 abbrev pub items : {T : Type 0} {N : ℕ} → FixedVec T N → List T
-items v = take (v .count) (v .places)
+items v = take (v .count) (v .slots)

@@ -1,4 +1,4 @@
-// The list, and what its count keeps.
+// The list: an array, and how many of its slots hold items.
 ghost use mathlib.Core.Path.{_≡_};
 ghost use Prim.Native.Nat.{_≤_};
 ghost use lib.ListN.{length};
@@ -7,9 +7,9 @@ mod methods;
 
 #[derive(Drop)]
 pub struct FixedVec<T, const N: usize> {
-    // the items, and after them whatever the unused places hold
-    places: [T; N],
+    // the items, and after them whatever the unused slots hold
+    slots: [T; N],
     count: usize,
-    ghost long: { length places ≡ N },
+    ghost long: { length slots ≡ N },
     ghost fits: { count ≤ N },
 }

@@ -1,18 +1,17 @@
 // A pace over another: the backlog comes before the first block.
 ghost use mathlib.Core.Path.{_≡_};
-ghost use Rattle.pace.specs.Moments.{backlog};
+ghost use Rattle.pace.specs.Moments.{backlog-moment};
 use crate::terms::Terms;
+use crate::traits::LATEST;
+use crate::traits::MOST_BLOCKS;
 use crate::traits::Meter;
 use crate::traits::Pace;
 
-// No moment is later.
-const LATEST: u64 = 99_999_999_999;
-
-#[derive(Clone, Copy, Debug)]
+#[derive(Clone, Copy)]
 pub struct Backlog<P>(pub P);
 
 pub impl<P: Pace> Pace for Backlog<P> as BacklogPace {
-    ghost table = { λ s. backlog (P·Pace .table (s .0)) };
+    ghost table = { λ s. backlog-moment (P·Pace .table (s .0)) };
 
     fn moment(&self, terms: Terms, k: u32) -> u64 {
         if k == 0 {
@@ -27,7 +26,7 @@ pub impl<P: Meter> Meter for Backlog<P> as BacklogMeter {
     fn capacity(&self, terms: Terms, moment: u64) -> u32 {
         let backlog = terms.backlog as u64;
         if moment >= LATEST {
-            1_000_000
+            MOST_BLOCKS
         } else if moment < backlog {
             0
         } else {

@@ -19,6 +19,5 @@ pub use lots::LotsMeter;
 pub use lots::LotsPace;
 pub use terms::Terms;
 pub use terms::TermsDebug;
-pub use terms::TermsPartialEq;
 pub use traits::Meter;
 pub use traits::Pace;

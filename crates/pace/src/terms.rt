@@ -1,11 +1,11 @@
 // The terms of a machine. Every value that fits the widths is allowed here.
 
-#[derive(Clone, Copy, PartialEq, Eq, Debug)]
+#[derive(Clone, Copy, Debug)]
 pub struct Terms {
-    // for one block
+    // that one block takes
     pub ticks: u16,
     // blocks that are sent together
     pub lot: u16,
-    // ticks before the first block
+    // ticks that the machine is busy before its first block
     pub backlog: u32,
 }

@@ -5,6 +5,12 @@ ghost use Rattle.pace.specs.declared.terms.Terms.{Terms};
 ghost use Rattle.pace.specs.Moments.{Fit, capacity-of};
 use crate::terms::Terms;
 
+// No moment of a table is later.
+pub(crate) const LATEST: u64 = 99_999_999_999;
+
+// From this count on a table stays level.
+pub(crate) const MOST_BLOCKS: u32 = 1_000_000;
+
 // A table of moments, by a machine's terms and the count of a block.
 pub trait Pace {
     // the moment at which a machine with these terms ends its k-th block

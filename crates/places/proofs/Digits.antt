@@ -11,11 +11,15 @@ use lib.Bits.{bitOr}
 use lib.Pow.{pow-mono}
 use Rattle.std.proofs.shelf.Bits.{or-shr, or-mod, shl-shr, pow-add, pow-pos, pow-below, shr-shr}
 use Rattle.std.proofs.shelf.Tests.{eq-eqb, ne-eqb, eqb-true, eqb-false, cases-order, cases-bool}
-use Rattle.places.specs.Has.{digit}
+use Rattle.places.specs.Has.{digit, has, no-places}
 
 pub digit-none : (k : ℕ) → digit 0 k ≡ false
 unfolding digit
 digit-none k = rw zero-div refl
+
+pub has-none : (k : ℕ) → has no-places k ≡ false
+unfolding has
+has-none k = digit-none k
 
 or-bits : (x y : ℕ) → x < 2 → y < 2 → eqb (bitOr x y) 1 ≡ (eqb x 1 || eqb y 1)
 or-bits zero zero p q = refl

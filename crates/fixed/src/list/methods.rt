@@ -1,4 +1,4 @@
-// As with `Vec`, a place that is handed in has to be one of the list's, and an insertion needs room.
+// As with `Vec`, a place that is handed in has to be one of the list's, or for an insertion its end, and an insertion needs room.
 ghost use mathlib.Core.Path.{_≡_};
 ghost use mathlib.Core.List.{[]};
 ghost use Prim.Native.Nat.{ℕ, _<_, _≤_};
@@ -9,12 +9,12 @@ ghost use Rattle.fixed.specs.Items.{items};
 use super::FixedVec;
 
 impl<T: Copy, const N: usize> FixedVec<T, N> {
-    // No item; the unused places hold the spare.
+    // No item; the unused slots hold the spare.
     pub fn new(spare: T) -> FixedVec<T, N>
         ensures holds_no_item { λ r. ⌜ items r ≡ [] ⌝ }
     {
         FixedVec {
-            places: [spare; N],
+            slots: [spare; N],
             count: 0,
         }
     }
@@ -22,7 +22,7 @@ impl<T: Copy, const N: usize> FixedVec<T, N> {
     pub fn as_slice(&self) -> &[T]
         ensures lends_the_items { λ r. ⌜ now r ≡ items (now (self .entry)) ⌝ }
     {
-        let all = &self.places[..];
+        let all = &self.slots[..];
         &all[0..self.count]
     }
 
@@ -39,10 +39,10 @@ impl<T: Copy, const N: usize> FixedVec<T, N> {
         ensures inserts_the_item { λ _. ⌜ items (now (self .exit)) ≡ inserted (items (now (self .entry))) at item ⌝ }
     {
         for i in (at..self.count).rev() {
-            let moved = self.places[i];
-            self.places[i + 1] = moved;
+            let moved = self.slots[i];
+            self.slots[i + 1] = moved;
         }
-        self.places[at] = item;
+        self.slots[at] = item;
         self.count += 1;
     }
 
@@ -53,8 +53,8 @@ impl<T: Copy, const N: usize> FixedVec<T, N> {
     {
         let last = self.count - 1;
         for i in at..last {
-            let moved = self.places[i + 1];
-            self.places[i] = moved;
+            let moved = self.slots[i + 1];
+            self.slots[i] = moved;
         }
         self.count = last;
     }
@@ -64,6 +64,6 @@ impl<T: Copy, const N: usize> FixedVec<T, N> {
         requires within { ⌜ at < length (items (now self)) ⌝ }
         ensures replaces_the_item { λ _. ⌜ items (now (self .exit)) ≡ set (items (now (self .entry))) at by ⌝ }
     {
-        self.places[at] = by;
+        self.slots[at] = by;
     }
 }

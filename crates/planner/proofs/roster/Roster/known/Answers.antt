@@ -41,7 +41,7 @@ loop-number-again c =
     let place : ℕ = c .in-Ok .place in
     let f = c .in-Ok .ensures tt .finds-the-place in
     let small : place < 32 =
-    omega (arith, f .within, length-map ms (λ m. m .number), length-take (c .args .self .now .machines .count) (c .args .self .now .machines .places), c .args .self .now .machines .fits) in
+    omega (arith, f .within, length-map ms (λ m. m .number), length-take (c .args .self .now .machines .count) (c .args .self .now .machines .slots), c .args .self .now .machines .fits) in
     gathered-more ms ns (has (c .loop-number .places)) (c .loop-number .number-index) (c .loop-number-test .taken) (c .loop-number .inv)
     (has (c .with-places .result)) place (c .args .self .now .ascends) f
     (λ k. c .with-places .ensures .adds-the-place k
