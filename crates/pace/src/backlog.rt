@@ -1,6 +1,7 @@
 // A pace over another: the backlog comes before the first block.
 ghost use mathlib.Core.Path.{_≡_};
-ghost use Rattle.pace.specs.Moments.{backlog-moment};
+ghost use Prim.Native.Nat.{_<_, _≤_};
+ghost use Rattle.pace.specs.Moments.{backlog-moment, capacity-of};
 use crate::terms::Terms;
 use crate::traits::LATEST;
 use crate::traits::MOST_BLOCKS;
@@ -23,7 +24,11 @@ pub impl<P: Pace> Pace for Backlog<P> as BacklogPace {
 
 pub impl<P: Meter> Meter for Backlog<P> as BacklogMeter {
     // A moment before the backlog leaves no time at all, and every block ends by the latest moment.
-    fn capacity(&self, terms: Terms, moment: u64) -> u32 {
+    fn capacity(&self, terms: Terms, moment: u64) -> u32
+        ensures counts_the_table { λ r. ⌜ r ≡ capacity-of (backlog-moment (P·Pace .table (now (self .entry) .0)) terms) moment ⌝ }
+        ensures is_none_before_the_backlog { λ r. ⌜ (moment < terms .backlog → r ≡ 0) ⌝ }
+        ensures is_all_from_the_latest_moment_on { λ r. ⌜ (99999999999 ≤ moment → r ≡ 1000000) ⌝ }
+    {
         let backlog = terms.backlog as u64;
         if moment >= LATEST {
             MOST_BLOCKS
