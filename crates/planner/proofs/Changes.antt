@@ -219,7 +219,7 @@ module _ (ms : List Machine) (bs : List Batch) where
 
 -- what the type of a book keeps
 pub kept : (b : Book) → Sound (length (machines-of (b .roster))) (items (b .batches)) (b .blocks)
-kept b = record { ascends = b .ascends; in-range = b .«in_range»; manned = b .«held_by_machines»; summed = b .summed }
+kept b = record { ascends = b .ascends; in-range = b .«in_range»; manned = b .manned; summed = b .summed }
 
 -- what a hold asks for once its ranges and its holders are checked
 pub asked-from : (ms : List Machine) (bs : List Held) (b n : ℕ) (p : Places) (hs : List ℕ)

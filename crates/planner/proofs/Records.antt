@@ -9,8 +9,7 @@ use lib.Dec.{eqb, ltb}
 use lib.ListN.{length, getD, set, take, drop}
 use Rattle.std.specs.Holes.{inserted, removed}
 use Rattle.std.proofs.shelf.Tests.{and-parts, and-from, ltb-true, lt-ltb, eq-eqb, ne-eqb, or-from, or-left, or-right, cases-lt}
-use Rattle.planner.specs.Numbers.{among, rising, ascending, Found, Missing}
-use Rattle.planner.specs.Ranges.{all}
+use Rattle.planner.specs.Numbers.{all, among, rising, ascending, Found, Missing}
 
 -- a number that is found is among them, and one that is missing is not
 pub found-among : (n : ℕ) (ns : List ℕ) (i : ℕ) → i < length ns → getD ns i 0 ≡ n → among n ns ≡ true

@@ -10,16 +10,12 @@ use Rattle.std.specs.Holes.{inserted, removed}
 use Rattle.std.proofs.shelf.Lists.{map-append, take-map, drop-map, getD-past, getD-default}
 use Rattle.std.proofs.shelf.Tests.{both-ways, cases-lt}
 use Rattle.places.specs.Has.{has}
-use Rattle.places.proofs.Digits.{digit-none}
+use Rattle.places.proofs.Digits.{has-none}
 use Rattle.planner.specs.declared.machine.Machine.{Machine}
 use Rattle.planner.specs.declared.batch.Batch.{Batch}
 use Rattle.planner.specs.Standing.{Held, batch-numbers, all-blocks}
 use Rattle.planner.specs.Ranges.{no-batch, Manned, blocks-in}
 use Rattle.planner.specs.Views.{batch-of}
-
-pub no-holders : (k : ℕ) → has (no-batch .holders) k ≡ false
-unfolding has
-no-holders k = digit-none k
 
 -- the view keeps numbers and blocks
 pub numbers-viewed : (ms : List Machine) (bs : List Batch) → batch-numbers (map (batch-of ms) bs) ≡ map (λ b. b .number) bs
@@ -59,7 +55,7 @@ blocks-removed (c ∷ cs) (suc i) d lt = omega (arith, blocks-removed cs i d (om
 -- all holders are machines
 module _ (n : ℕ) where
   pub manned-none : Manned n []
-  manned-none i k is = absurd (both-ways _ (no-holders k) is)
+  manned-none i k is = absurd (both-ways _ (has-none k) is)
 
   manned-next : (b : Batch) (bs : List Batch) → Manned n (b ∷ bs) → Manned n bs
   manned-next b bs each i k is = each (suc i) k is

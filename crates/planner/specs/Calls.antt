@@ -14,8 +14,8 @@ pub data Call : Type 0 where
   Drop : ℕ → ℕ → Call
 
 -- a machine by its number, ticks, lot and backlog
-abbrev pub machine : ℕ → ℕ → ℕ → ℕ → Machine
-machine n ticks lot backlog = record { number = n; terms = record { ticks = ticks; lot = lot; backlog = backlog } }
+abbrev pub machine-with : ℕ → ℕ → ℕ → ℕ → Machine
+machine-with n ticks lot backlog = record { number = n; terms = record { ticks = ticks; lot = lot; backlog = backlog } }
 
 abbrev pub after : Call → Standing → Standing
 after (Enlist m) s = record { machines = with-machine m (s .machines); batches = s .batches }

@@ -1,9 +1,9 @@
--- The refusals: of each its number and what it is told for; of each call its checks in their order.
---   case-of r            the number of r, and the arguments and standing states that it is told for
+-- The refusals: of each its number and what it applies to; of each call its checks in their order.
+--   case-of r            the number of r, and the arguments and standing states that it applies to
 --   checks c             the refusals of the call c, in the order in which they are checked
 --   first-refusal c s    the first check of the call c that applies at what stands, if one does
 --   refusal-in r         the refusal that a call answered, if it did
-use mathlib.Core.Bool.{Bool, true, false, cond, _&&_, _||_, not}
+use mathlib.Core.Bool.{Bool, true, false, cond, _&&_, not}
 use mathlib.Core.List.{List, [], _∷_}
 use Prim.Native.Nat.{ℕ, _+_}
 use lib.Dec.{eqb, ltb, leb}
@@ -15,9 +15,9 @@ use Rattle.std.specs.declared.result.Result.the-variants.{Ok, Err}
 use Rattle.planner.specs.declared.machine.Machine.{Machine}
 use Rattle.planner.specs.declared.refusal.Refusal.{Refusal}
 use Rattle.planner.specs.declared.refusal.Refusal.the-variants.{MachineNumber, Ticks, Lot, Backlog, BatchNumber, Blocks, HolderCount, HolderOrder, MachineStands, MachinesFull, MachineUnknown, BatchesFull, OtherHolders, BatchPasses, BookPasses, BatchUnknown, BatchFewer}
-use Rattle.planner.specs.Numbers.{among, ascending, outside}
-use Rattle.planner.specs.Standing.{Standing, Held, machine-numbers, batch-numbers, blocks-of, holders-of, all-blocks}
-use Rattle.planner.specs.Calls.{Call, Enlist, Open, Hold, Drop, machine}
+use Rattle.planner.specs.Numbers.{all, among, ascending, outside, bad-machine-number, bad-ticks, bad-lot, bad-backlog, bad-batch-number, bad-blocks}
+use Rattle.planner.specs.Standing.{Standing, machine-numbers, batch-numbers, blocks-of, holders-of, all-blocks}
+use Rattle.planner.specs.Calls.{Call, Enlist, Open, Hold, Drop, machine-with}
 
 -- what a call is handed; 0 or none where it has no such argument
 pub record Handed : Type 0 where
@@ -28,14 +28,13 @@ pub record Handed : Type 0 where
 
 abbrev pub handed : Call → Handed
 handed (Enlist m) = record { machine = m; batch = 0; blocks = 0; holders = [] }
-handed Open = record { machine = machine 0 0 0 0; batch = 0; blocks = 0; holders = [] }
-handed (Hold b n hs) = record { machine = machine 0 0 0 0; batch = b; blocks = n; holders = hs }
-handed (Drop b n) = record { machine = machine 0 0 0 0; batch = b; blocks = n; holders = [] }
+handed Open = record { machine = machine-with 0 0 0 0; batch = 0; blocks = 0; holders = [] }
+handed (Hold b n hs) = record { machine = machine-with 0 0 0 0; batch = b; blocks = n; holders = hs }
+handed (Drop b n) = record { machine = machine-with 0 0 0 0; batch = b; blocks = n; holders = [] }
 
 -- all the numbers are those of machines that stand
 abbrev pub all-among : List ℕ → List ℕ → Bool
-all-among [] ms = true
-all-among (n ∷ ns) ms = among n ms && all-among ns ms
+all-among ns ms = all (λ n. among n ms) ns
 
 -- the same numbers in the same order
 abbrev pub same : List ℕ → List ℕ → Bool
@@ -52,12 +51,12 @@ abbrev pub tells : ℕ → (Handed → Standing → Bool) → Case
 tells n p = record { number = n; applies = p }
 
 abbrev pub case-of : Refusal → Case
-case-of MachineNumber = tells 11 (λ h s. outside 1 9999 (h .machine .number))
-case-of Ticks = tells 12 (λ h s. outside 1 9999 (h .machine .terms .ticks))
-case-of Lot = tells 13 (λ h s. outside 1 999 (h .machine .terms .lot))
-case-of Backlog = tells 14 (λ h s. outside 0 999999 (h .machine .terms .backlog))
-case-of BatchNumber = tells 15 (λ h s. outside 1 99999 (h .batch))
-case-of Blocks = tells 16 (λ h s. outside 1 99999 (h .blocks))
+case-of MachineNumber = tells 11 (λ h s. bad-machine-number (h .machine .number))
+case-of Ticks = tells 12 (λ h s. bad-ticks (h .machine .terms .ticks))
+case-of Lot = tells 13 (λ h s. bad-lot (h .machine .terms .lot))
+case-of Backlog = tells 14 (λ h s. bad-backlog (h .machine .terms .backlog))
+case-of BatchNumber = tells 15 (λ h s. bad-batch-number (h .batch))
+case-of Blocks = tells 16 (λ h s. bad-blocks (h .blocks))
 case-of HolderCount = tells 17 (λ h s. outside 1 32 (length (h .holders)))
 case-of HolderOrder = tells 18 (λ h s. not (ascending (h .holders)))
 case-of MachineStands = tells 41 (λ h s. among (h .machine .number) (machine-numbers (s .machines)))

@@ -1,15 +1,14 @@
 // A batch of equal blocks, and the machines that hold it.
 ghost use mathlib.Core.Path.{_≡_};
 ghost use mathlib.Core.Bool.{_&&_, not};
-ghost use mathlib.Core.List.{List, [], _∷_};
-ghost use Prim.Native.Nat.{ℕ};
+ghost use mathlib.Core.List.{[], _∷_};
 ghost use Rattle.std.specs.Results.{isOk};
-ghost use Rattle.planner.specs.Numbers.{outside};
+ghost use Rattle.planner.specs.Numbers.{bad-batch-number, bad-blocks};
 ghost use Rattle.planner.specs.Refusals.{Handed, first-of, refusal-in};
 ghost use Rattle.planner.specs.Standing.{Standing};
 use crate::lookup::Numbered;
 use crate::refusal::Refusal;
-use crate::refusal::in_range;
+use crate::refusal::check_range;
 use places::Places;
 use places::PlacesDebug;
 
@@ -32,8 +31,8 @@ pub(crate) impl Numbered for Batch as BatchNumbered {
 // The checks of the batch number and the blocks that are handed in.
 pub(crate) fn check_batch(batch: u32, blocks: u32) -> Result<(), Refusal>
     ensures refuses_by_the_first_range { λ r. ⌜ ((h : Handed) (s : Standing) → h .batch ≡ batch → h .blocks ≡ blocks → refusal-in r ≡ first-of (Refusal.BatchNumber ∷ Refusal.Blocks ∷ []) h s) ⌝ }
-    ensures passes_just_what_is_in_range { λ r. ⌜ isOk r ≡ (not (outside 1 99999 batch) && not (outside 1 99999 blocks)) ⌝ }
+    ensures passes_just_what_is_in_range { λ r. ⌜ isOk r ≡ (not (bad-batch-number batch) && not (bad-blocks blocks)) ⌝ }
 {
-    in_range(batch, 1, 99_999, Refusal::BatchNumber)?;
-    in_range(blocks, 1, 99_999, Refusal::Blocks)
+    check_range(batch, 1, 99_999, Refusal::BatchNumber)?;
+    check_range(blocks, 1, 99_999, Refusal::Blocks)
 }

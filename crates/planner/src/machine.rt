@@ -8,12 +8,11 @@ ghost use Rattle.planner.specs.Refusals.{handed, first-of, refusal-in};
 ghost use Rattle.planner.specs.Standing.{Standing};
 use crate::lookup::Numbered;
 use crate::refusal::Refusal;
-use crate::refusal::in_range;
+use crate::refusal::check_range;
 use pace::Terms;
 use pace::TermsDebug;
-use pace::TermsPartialEq;
 
-#[derive(Clone, Copy, PartialEq, Debug)]
+#[derive(Clone, Copy, Debug)]
 pub struct Machine {
     pub number: u16,
     pub terms: Terms,
@@ -33,9 +32,9 @@ impl Machine {
         ensures refuses_by_the_first_range { λ r. ⌜ ((s : Standing) → refusal-in r ≡ first-of (Refusal.MachineNumber ∷ Refusal.Ticks ∷ Refusal.Lot ∷ Refusal.Backlog ∷ []) (handed (Enlist (now (self .entry)))) s) ⌝ }
         ensures passes_just_what_is_in_range { λ r. ⌜ isOk r ≡ machine-in-range (now (self .entry)) ⌝ }
     {
-        in_range(self.number as u32, 1, 9_999, Refusal::MachineNumber)?;
-        in_range(self.terms.ticks as u32, 1, 9_999, Refusal::Ticks)?;
-        in_range(self.terms.lot as u32, 1, 999, Refusal::Lot)?;
-        in_range(self.terms.backlog, 0, 999_999, Refusal::Backlog)
+        check_range(self.number as u32, 1, 9_999, Refusal::MachineNumber)?;
+        check_range(self.terms.ticks as u32, 1, 9_999, Refusal::Ticks)?;
+        check_range(self.terms.lot as u32, 1, 999, Refusal::Lot)?;
+        check_range(self.terms.backlog, 0, 999_999, Refusal::Backlog)
     }
 }

@@ -4,9 +4,9 @@ ghost use mathlib.Core.Bool.{true, false};
 ghost use Prim.Native.Nat.{_≤_};
 ghost use lib.ListN.{length};
 ghost use Rattle.std.specs.Results.{isOk};
-ghost use Rattle.planner.specs.Calls.{Enlist, machine, after};
-ghost use Rattle.planner.specs.Numbers.{ascending};
-ghost use Rattle.planner.specs.Ranges.{all, machine-in-range};
+ghost use Rattle.planner.specs.Calls.{Enlist, Open, machine-with, after};
+ghost use Rattle.planner.specs.Numbers.{all, ascending};
+ghost use Rattle.planner.specs.Ranges.{machine-in-range};
 ghost use Rattle.planner.specs.Refusals.{first-refusal, refusal-in};
 ghost use Rattle.planner.specs.Standing.{nothing, machine-numbers};
 ghost use Rattle.planner.specs.States.{in-muster, in-book};
@@ -50,9 +50,9 @@ impl<P> Muster<P> {
 
     // Adds a machine; at most 32 are enlisted.
     pub fn enlist(&mut self, number: u16, ticks: u16, lot: u16, backlog: u32) -> Result<(), Refusal>
-        ensures refuses_by_the_first_check_that_applies { λ r. ⌜ refusal-in r ≡ first-refusal (Enlist (machine number ticks lot backlog)) (in-muster (now (self .entry))) ⌝ }
+        ensures refuses_by_the_first_check_that_applies { λ r. ⌜ refusal-in r ≡ first-refusal (Enlist (machine-with number ticks lot backlog)) (in-muster (now (self .entry))) ⌝ }
         ensures changes_nothing_where_refused { λ r. ⌜ (isOk r ≡ false → now (self .exit) ≡ now (self .entry)) ⌝ }
-        ensures adds_the_machine_where_accepted { λ r. ⌜ (isOk r ≡ true → in-muster (now (self .exit)) ≡ after (Enlist (machine number ticks lot backlog)) (in-muster (now (self .entry)))) ⌝ }
+        ensures adds_the_machine_where_accepted { λ r. ⌜ (isOk r ≡ true → in-muster (now (self .exit)) ≡ after (Enlist (machine-with number ticks lot backlog)) (in-muster (now (self .entry)))) ⌝ }
         ensures keeps_the_pace { λ r. ⌜ now (self .exit) .pace ≡ now (self .entry) .pace ⌝ }
     {
         let terms = Terms {
@@ -65,7 +65,7 @@ impl<P> Muster<P> {
 
     // The open book of these machines, without a batch.
     pub fn open(self) -> OpenBook<P>
-        ensures keeps_what_stands { λ r. ⌜ in-book r ≡ in-muster self ⌝ }
+        ensures keeps_what_stands { λ r. ⌜ in-book r ≡ after Open (in-muster self) ⌝ }
         ensures keeps_the_pace { λ r. ⌜ r .pace ≡ self .pace ⌝ }
     {
         let Muster { pace, roster } = self;

@@ -6,8 +6,8 @@ ghost use Prim.Native.Nat.{_≤_};
 ghost use lib.ListN.{length};
 ghost use Rattle.std.specs.Results.{isOk};
 ghost use Rattle.planner.specs.Calls.{Hold, Drop, after};
-ghost use Rattle.planner.specs.Numbers.{ascending};
-ghost use Rattle.planner.specs.Ranges.{all, machine-in-range, batch-in-range, Manned, blocks-in};
+ghost use Rattle.planner.specs.Numbers.{all, ascending};
+ghost use Rattle.planner.specs.Ranges.{machine-in-range, batch-in-range, Manned, numbers-of, blocks-in};
 ghost use Rattle.planner.specs.Refusals.{first-refusal, refusal-in};
 ghost use Rattle.planner.specs.Standing.{machine-numbers};
 ghost use Rattle.planner.specs.States.{in-book};
@@ -37,7 +37,7 @@ impl<P> OpenBook<P> {
     // The batches, in ascending number. Their holders are places among the machines.
     pub fn batches(&self) -> &[Batch]
         ensures lends_the_batches { λ r. ⌜ map (batch-of (in-book (now (self .entry)) .machines)) (now r) ≡ in-book (now (self .entry)) .batches ⌝ }
-        ensures lends_them_in_ascending_number { λ r. ⌜ ascending (map (λ b. b .number) (now r)) ≡ true ⌝ }
+        ensures lends_them_in_ascending_number { λ r. ⌜ ascending (numbers-of (now r)) ≡ true ⌝ }
         ensures lends_each_in_its_ranges { λ r. ⌜ all (batch-in-range (length (in-book (now (self .entry)) .machines))) (now r) ≡ true ⌝ }
         ensures names_holders_by_places_of_machines { λ r. ⌜ Manned (length (in-book (now (self .entry)) .machines)) (now r) ⌝ }
         ensures lends_at_most_128 { λ r. ⌜ length (now r) ≤ 128 ⌝ }

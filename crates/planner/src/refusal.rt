@@ -5,7 +5,7 @@ ghost use Rattle.std.specs.declared.option.Option.the-variants.{Some, None};
 ghost use Rattle.planner.specs.Numbers.{outside};
 ghost use Rattle.planner.specs.Refusals.{case-of, refusal-in};
 
-#[derive(Clone, Copy, PartialEq, Eq, Debug)]
+#[derive(Clone, Copy, Debug)]
 pub enum Refusal {
     // for what was handed in: outside its range
     MachineNumber = 11,
@@ -18,7 +18,7 @@ pub enum Refusal {
     HolderCount = 17,
     // not strictly ascending
     HolderOrder = 18,
-    // for how the book stands
+    // for how the muster or the book stands
     MachineStands = 41,
     MachinesFull = 42,
     MachineUnknown = 43,
@@ -52,8 +52,8 @@ pub(crate) fn refuse_if(applies: bool, refusal: Refusal) -> Result<(), Refusal>
 }
 
 // Refuses a value outside its range.
-pub(crate) fn in_range(value: u32, low: u32, high: u32, refusal: Refusal) -> Result<(), Refusal>
+pub(crate) fn check_range(value: u32, low: u32, high: u32, refusal: Refusal) -> Result<(), Refusal>
     ensures refuses_just_what_is_outside { λ r. ⌜ refusal-in r ≡ cond (outside low high value) (Some refusal) None ⌝ }
 {
-    refuse_if(value < low || high < value, refusal)
+    refuse_if(value < low || value > high, refusal)
 }

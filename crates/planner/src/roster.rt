@@ -2,8 +2,8 @@
 ghost use mathlib.Core.Path.{_≡_};
 ghost use mathlib.Core.Bool.{true};
 ghost use Rattle.fixed.specs.Items.{items};
-ghost use Rattle.planner.specs.Numbers.{ascending};
-ghost use Rattle.planner.specs.Ranges.{all, machine-in-range};
+ghost use Rattle.planner.specs.Numbers.{all, ascending};
+ghost use Rattle.planner.specs.Ranges.{machine-in-range};
 ghost use Rattle.planner.specs.Standing.{machine-numbers};
 use crate::machine::Machine;
 use fixed::FixedVec;

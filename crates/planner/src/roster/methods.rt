@@ -15,7 +15,6 @@ ghost use Rattle.planner.specs.Refusals.{handed, first-of, first-refusal, refu
 ghost use Rattle.planner.specs.Standing.{Held, machine-numbers};
 ghost use Rattle.planner.specs.Views.{machines-of, mustered};
 use super::Roster;
-use crate::lookup::Numbered;
 use crate::lookup::find;
 use crate::machine::Machine;
 use crate::machine::MachineNumbered;
@@ -82,11 +81,11 @@ impl Roster {
             Refusal::HolderCount,
         )?;
         refuse_if(!ascends(holders), Refusal::HolderOrder)?;
-        self.known(holders)
+        self.places_of_known(holders)
     }
 
     // The places of the machines with these numbers, which are to be in ascending order.
-    fn known(&self, numbers: &[u16]) -> Result<Places, Refusal>
+    fn places_of_known(&self, numbers: &[u16]) -> Result<Places, Refusal>
         ensures refuses_just_where_a_machine_is_unknown { λ r. ⌜ refusal-in r ≡ cond (not (all-among (now (numbers .entry)) (machine-numbers (machines-of (now (self .entry)))))) (Some Refusal.MachineUnknown) None ⌝ }
         ensures holds_the_places_of_just_these_machines { λ r. ⌜ (ascending (now (numbers .entry)) ≡ true → made r (λ p. numbers-at (has p) (machines-of (now (self .entry))) ≡ now (numbers .entry))) ⌝ }
         ensures holds_places_of_machines_only { λ r. ⌜ made r (λ p. (k : ℕ) → has p k ≡ true → k < length (machines-of (now (self .entry)))) ⌝ }

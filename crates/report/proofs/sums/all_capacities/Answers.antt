@@ -7,7 +7,7 @@ use Rattle.std.proofs.shelf.Lists.{take-all}
 use Rattle.std.proofs.shelf.Sums.{sumBy-more}
 use Rattle.pace.specs.Moments.{capacity-of}
 use Rattle.planner.specs.declared.machine.Machine.{Machine}
-use Rattle.planner.specs.Calls.{machine}
+use Rattle.planner.specs.Calls.{machine-with}
 use Rattle.report.proofs.sums.all_capacities.Needs as need
 
 pub loop-machine-again : need.loop-machine-again
@@ -16,7 +16,7 @@ loop-machine-again g c =
     let i : ℕ = c .loop-machine .machine-index in (
       ap (λ (n : ℕ). n + c .capacity .result) (c .loop-machine .inv .0)
           ∙ ap (λ (n : ℕ). sumBy f (take i (c .args .machines .now)) + n) (c .capacity .ensures .counts-the-table)
-          ∙ sym (sumBy-more f (c .args .machines .now) i (machine 0 0 0 0) (c .loop-machine-test .taken)),
+          ∙ sym (sumBy-more f (c .args .machines .now) i (machine-with 0 0 0 0) (c .loop-machine-test .taken)),
       omega arith,
     )
 

@@ -15,7 +15,7 @@ use Rattle.planner.specs.Refusals.{handed}
 use Rattle.planner.specs.Views.{machines-of, standing-of}
 use Rattle.planner.proofs.Checks.{past, told, accepted, go, stop, passed, by-the-checks}
 use Rattle.planner.proofs.Changes.{kept, range-from, missing-stands, found-within, found-stands, found-blocks, sound-replaced, sound-removed, blocks-stand, blocks-few, view-fewer, view-removed}
-use Rattle.planner.proofs.book.Book.fewer.Needs as need
+use Rattle.planner.proofs.book.Book.edit_to_drop.Needs as need
 
 pub returns-in-rest : need.returns-in-rest
 returns-in-rest c =

@@ -15,7 +15,7 @@ use Rattle.planner.specs.Standing.{machine-numbers}
 use Rattle.planner.specs.Views.{machines-of}
 use Rattle.planner.proofs.Records.{missing-among}
 use Rattle.planner.proofs.Holders.{gathered-none, gathered-more, gathered-unknown, gathered-all}
-use Rattle.planner.proofs.roster.Roster.known.Needs as need
+use Rattle.planner.proofs.roster.Roster.places_of_known.Needs as need
 
 pub loop-number-holds : need.loop-number-holds
 loop-number-holds c = gathered-none (machines-of (c .args .self .now)) (c .args .numbers .now) (has (c .empty-places .result)) (c .empty-places .ensures .holds-no-place)

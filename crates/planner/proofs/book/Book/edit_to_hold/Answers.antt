@@ -17,7 +17,7 @@ use Rattle.planner.specs.Refusals.{handed}
 use Rattle.planner.specs.Views.{machines-of, standing-of}
 use Rattle.planner.proofs.Checks.{past, accepted, go, stop, passed, by-the-checks}
 use Rattle.planner.proofs.Changes.{kept, in-range, range-from, missing-stands, missing-blocks, missing-full, sound-inserted, view-inserted, found-within, found-full, found-blocks, found-other, sound-replaced, view-more}
-use Rattle.planner.proofs.book.Book.more.Needs as need
+use Rattle.planner.proofs.book.Book.edit_to_hold.Needs as need
 
 pub returns-in-Break-refuse-if : need.returns-in-Break-refuse-if
 returns-in-Break-refuse-if c =
@@ -32,7 +32,7 @@ returns-in-Break-refuse-if c =
       refuses-by-the-first-check-of-the-batch = λ hs asked.
           by-the-checks (OtherHolders ∷ BatchesFull ∷ BatchPasses ∷ []) (handed (Hold (c .args .number) (c .args .blocks) hs)) (standing-of (c .args .self .now))
           (stop (found-other ms bs (c .args .number) (c .in-Ok .at) (c .in-Ok .batch) f read (c .args .holders) hs (c .args .self .now .roster .ascends)
-          (c .args .self .now .«held_by_machines») (asked .just) (asked .within) (c .ne .result) (ne .0) (ne .1) (ne .2))
+          (c .args .self .now .manned) (asked .just) (asked .within) (c .ne .result) (ne .0) (ne .1) (ne .2))
           (c .in-Break-refuse-if .ensures tt .refuses-just-where-it-applies));
       can-be-made = tt;
       leaves-the-batches-sound = tt;
@@ -56,10 +56,10 @@ returns-in-Break-refuse-if-2 c =
       refuses-by-the-first-check-of-the-batch = λ hs asked.
           by-the-checks (OtherHolders ∷ BatchesFull ∷ BatchPasses ∷ []) (handed (Hold (c .args .number) (c .args .blocks) hs)) (standing-of (c .args .self .now))
           (go (found-other ms bs (c .args .number) (c .in-Ok .at) (c .in-Ok .batch) f read (c .args .holders) hs (c .args .self .now .roster .ascends)
-          (c .args .self .now .«held_by_machines») (asked .just) (asked .within) (c .ne .result) (ne .0) (ne .1) (ne .2))
+          (c .args .self .now .manned) (asked .just) (asked .within) (c .ne .result) (ne .0) (ne .1) (ne .2))
           (c .in-Continue-refuse-if .ensures tt .refuses-just-where-it-applies)
           (past (found-full ms bs (c .args .number) (c .in-Ok .at) (c .in-Ok .batch) f read)
-          (stop (passes (c .saturating-add-blocks .result) (c .in-Ok .batch .blocks) _ (c .args .blocks) (c .saturating-add-blocks .ensures)
+          (stop (passes (c .saturating-add-total .result) (c .in-Ok .batch .blocks) _ (c .args .blocks) (c .saturating-add-total .ensures)
           (found-blocks ms bs (c .args .number) (c .in-Ok .at) (c .in-Ok .batch) f read))
           (c .in-Break-refuse-if-2 .ensures tt .refuses-just-where-it-applies))));
       can-be-made = tt;
@@ -92,17 +92,17 @@ returns-in-Continue-refuse-if-2 c =
     let f = c .in-Ok .ensures tt .finds-the-place in
     let read = c .in-Ok .ensures tt .reads-the-batch in
     let ne = c .ne .ensures in
-    let sum : ℕ = c .saturating-add-blocks .result in
+    let sum : ℕ = c .saturating-add-total .result in
     let few : sum ≤ 99999 = ltb-false 99999 sum (passed BatchPasses (c .in-Continue-refuse-if-2 .ensures tt .refuses-just-where-it-applies)) in
-    let is : sum ≡ c .in-Ok .batch .blocks + c .args .blocks = omega (arith, c .saturating-add-blocks .ensures, few) in
+    let is : sum ≡ c .in-Ok .batch .blocks + c .args .blocks = omega (arith, c .saturating-add-total .ensures, few) in
     record {
       refuses-by-the-first-check-of-the-batch = λ hs asked.
           by-the-checks (OtherHolders ∷ BatchesFull ∷ BatchPasses ∷ []) (handed (Hold (c .args .number) (c .args .blocks) hs)) (standing-of (c .args .self .now))
           (go (found-other ms bs (c .args .number) (c .in-Ok .at) (c .in-Ok .batch) f read (c .args .holders) hs (c .args .self .now .roster .ascends)
-          (c .args .self .now .«held_by_machines») (asked .just) (asked .within) (c .ne .result) (ne .0) (ne .1) (ne .2))
+          (c .args .self .now .manned) (asked .just) (asked .within) (c .ne .result) (ne .0) (ne .1) (ne .2))
           (c .in-Continue-refuse-if .ensures tt .refuses-just-where-it-applies)
           (past (found-full ms bs (c .args .number) (c .in-Ok .at) (c .in-Ok .batch) f read)
-          (go (passes (c .saturating-add-blocks .result) (c .in-Ok .batch .blocks) _ (c .args .blocks) (c .saturating-add-blocks .ensures)
+          (go (passes (c .saturating-add-total .result) (c .in-Ok .batch .blocks) _ (c .args .blocks) (c .saturating-add-total .ensures)
           (found-blocks ms bs (c .args .number) (c .in-Ok .at) (c .in-Ok .batch) f read))
           (c .in-Continue-refuse-if-2 .ensures tt .refuses-just-where-it-applies) accepted)));
       can-be-made = found-within ms bs (c .args .number) (c .in-Ok .at) (c .in-Ok .batch) f read;
