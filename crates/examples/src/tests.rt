@@ -1,4 +1,4 @@
-// Musters and books in which a call breaks two neighbouring checks at once: the first of them is told.
+// The order of the checks, by calls that break two neighbouring ones at once, and the limits of a book and of a backlog.
 use pace::Backlog;
 use pace::BacklogMeter;
 use pace::BacklogPace;
@@ -12,7 +12,7 @@ use planner::OpenBook;
 use planner::Refusal;
 use std::test::*;
 
-type Pace = Backlog<Even>;
+type Plain = Backlog<Even>;
 
 // the number, ticks, lot and backlog of a machine that is handed in to a muster of the machines 1 to 32, and what is told
 const ENLISTS: [(u16, u16, u16, u32, u8); 10] = [
@@ -65,7 +65,7 @@ fn told(answer: Result<(), Refusal>) -> u8 {
 }
 
 // the machines 1 to the last, all alike
-fn muster(last: u16) -> Muster<Pace> {
+fn muster(last: u16) -> Muster<Plain> {
     let mut muster = Muster::begin(Backlog(Even));
     for number in 1..=last {
         let _ = muster.enlist(number, 1, 1, 0);
@@ -74,7 +74,7 @@ fn muster(last: u16) -> Muster<Pace> {
 }
 
 // 128 batches on machine 1, with 1,000,000 blocks in all: nine of 99,999, one of 99,891 and 118 of 1
-fn full_book() -> OpenBook<Pace> {
+fn full_book() -> OpenBook<Plain> {
     let mut book = muster(3).open();
     for batch in 1..=9 {
         let _ = book.hold(batch, 99_999, &[1]);

@@ -2,7 +2,7 @@
 use mathlib.Core.Path.{_≡_, refl, ap, sym, _∙_}
 use mathlib.Core.Logic.{⊎-elim}
 use mathlib.Core.Bool.{Bool, cond}
-use Prim.Native.Nat.{ℕ, zero, suc, _+_, _≤_, _<_, min}
+use Prim.Native.Nat.{ℕ, zero, suc, _≤_, _<_, min}
 use native.Mathlib.Omega.{arith}
 use lib.Dec.{leb}
 use Rattle.std.proofs.shelf.Tests.{cases-lt, le-leb, lt-leb}
@@ -11,7 +11,7 @@ use Rattle.pace.specs.Moments.{count, capacity-of}
 counted : Bool → ℕ
 counted b = cond b 1 0
 
-pub count-upto : (n c : ℕ) (p : ℕ → Bool) → ((k : ℕ) → 0 < k → k ≤ n → p k ≡ leb k c) → count n p ≡ min n c
+count-upto : (n c : ℕ) (p : ℕ → Bool) → ((k : ℕ) → 0 < k → k ≤ n → p k ≡ leb k c) → count n p ≡ min n c
 unfolding count counted
 count-upto zero c p h = omega arith
 count-upto (suc n) c p h =
@@ -39,7 +39,7 @@ capacity-upto f t c within reached = count-upto 1000000 c (λ k. leb (f k) t) sa
         (λ (le : k ≤ c). le-leb (f k) t (reached k a b le) ∙ sym (le-leb k c le))
         (cases-lt c k)
 
-pub count-same : (n : ℕ) (p q : ℕ → Bool) → ((k : ℕ) → 0 < k → k ≤ n → p k ≡ q k) → count n p ≡ count n q
+count-same : (n : ℕ) (p q : ℕ → Bool) → ((k : ℕ) → 0 < k → k ≤ n → p k ≡ q k) → count n p ≡ count n q
 unfolding count counted
 count-same zero p q h = refl
 count-same (suc n) p q h =

@@ -1,5 +1,5 @@
 -- What the formulas of the paces keep, and their capacities.
-use mathlib.Core.Path.{_≡_, refl, sym, ap, subst, _∙_}
+use mathlib.Core.Path.{_≡_, ap, _∙_}
 use Prim.Native.Nat.{ℕ, suc, _+_, _-_, _*_, _/_, _≤_, _<_, min}
 use native.Mathlib.Nat.{mul-le-mul, mul-le-mul-right, le-div-iff-mul-le, div-lt-iff-lt-mul, div-mul-le-self, lt-div-mul-add, div-eq-of-lt, zero-mul, mul-zero, add-mul}
 use native.Mathlib.Omega.{arith}
@@ -34,11 +34,11 @@ module _ (lot : ℕ) (some : 0 < lot) where
   pub rounded-below : (k : ℕ) → rounded-up k lot ≤ k + (lot - 1)
   rounded-below k = div-mul-le-self (k + (lot - 1)) lot
 
-  pub rounded-above : (k : ℕ) → k ≤ rounded-up k lot
+  rounded-above : (k : ℕ) → k ≤ rounded-up k lot
   rounded-above k = omega (arith, lt-div-mul-add {a = k + (lot - 1)} some)
 
   -- a multiple of the lot that is not below k is not below k rounded up
-  pub rounded-least : (k q : ℕ) → k ≤ q * lot → rounded-up k lot ≤ q * lot
+  rounded-least : (k q : ℕ) → k ≤ q * lot → rounded-up k lot ≤ q * lot
   rounded-least k q le =
       mul-le-mul-right lot
       (let lt : (k + (lot - 1)) / lot < suc q = div-lt-iff-lt-mul some .1 (omega (arith, add-mul q 1 lot)) in omega arith)
@@ -46,11 +46,11 @@ module _ (lot : ℕ) (some : 0 < lot) where
   pub rounded-rises : (k j : ℕ) → k ≤ j → rounded-up k lot ≤ rounded-up j lot
   rounded-rises k j le = rounded-least k ((j + (lot - 1)) / lot) (omega (arith, rounded-above j))
 
-  pub rounded-within : (k q : ℕ) → rounded-up k lot ≤ q → k ≤ q / lot * lot
+  rounded-within : (k q : ℕ) → rounded-up k lot ≤ q → k ≤ q / lot * lot
   rounded-within k q le =
       omega (arith, rounded-above k, mul-le-mul-right lot (le-div-iff-mul-le {x = (k + (lot - 1)) / lot} {y = q} some .1 le))
 
-  pub rounded-reached : (k q : ℕ) → k ≤ q / lot * lot → rounded-up k lot ≤ q
+  rounded-reached : (k q : ℕ) → k ≤ q / lot * lot → rounded-up k lot ≤ q
   rounded-reached k q le = omega (arith, rounded-least k (q / lot) le, div-mul-le-self q lot)
 
   pub capacity-lots : (ticks t : ℕ) → 0 < ticks → capacity-of (λ k. rounded-up (min k 1000000) lot * ticks) t ≡ min 1000000 (t / ticks / lot * lot)

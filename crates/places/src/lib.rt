@@ -3,8 +3,8 @@
 // A book's machines stand at the places 0 to 31 in ascending number. Every contract here says through `has`
 // which places a set holds, and nothing else.
 ghost use mathlib.Core.Path.{_≡_};
-ghost use mathlib.Core.Bool.{Bool, true, false, _||_, _&&_};
-ghost use Prim.Native.Nat.{ℕ, _<_};
+ghost use mathlib.Core.Bool.{false, _||_, _&&_};
+ghost use Prim.Native.Nat.{ℕ};
 ghost use lib.Dec.{eqb, ltb};
 ghost use Rattle.std.specs.Orderings.{Decides};
 ghost use Rattle.places.specs.Has.{has};

@@ -1,15 +1,15 @@
 -- What stands after a batch is started, gets more blocks, loses some or is removed at its place.
 use mathlib.Core.Path.{_≡_, refl, sym, ap, _∙_}
-use mathlib.Core.Bool.{Bool, true, false, cond}
+use mathlib.Core.Bool.{true, false}
 use mathlib.Core.List.{List, [], _∷_}
 use Prim.Native.Nat.{ℕ, zero, suc, _+_, _-_, _<_}
 use native.Mathlib.Omega.{arith}
 use lib.Dec.{eqb, ltb}
-use lib.ListN.{length, getD, set}
+use lib.ListN.{getD, set}
 use Rattle.std.specs.Holes.{inserted, removed}
 use Rattle.std.proofs.shelf.Tests.{cond-true, cond-false, lt-ltb, le-ltb, eq-eqb, ne-eqb, or-parts}
 use Rattle.planner.specs.Numbers.{among, Found, Missing}
-use Rattle.planner.specs.Standing.{Held, batch-numbers, blocks-of, holders-of, all-blocks, more-blocks, fewer-blocks}
+use Rattle.planner.specs.Standing.{Held, batch-numbers, blocks-of, holders-of, more-blocks, fewer-blocks}
 use Rattle.planner.proofs.Records.{found-next, missing-next}
 
 -- a batch with other blocks

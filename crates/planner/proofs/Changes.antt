@@ -1,16 +1,16 @@
 -- A batch that is found or missing in a sound book: what its checks ask, and what its change leaves.
-use mathlib.Core.Path.{_≡_, refl, sym, ap, subst, _∙_}
+use mathlib.Core.Path.{_≡_, refl, sym, ap, _∙_}
 use mathlib.Core.Logic.{⊎-elim}
 use mathlib.Core.Bool.{Bool, true, false, _&&_, not, and-true}
 use mathlib.Core.List.{List, [], _∷_, map}
-use Prim.Native.Nat.{ℕ, zero, suc, _+_, _-_, _<_, _≤_}
+use Prim.Native.Nat.{ℕ, _+_, _-_, _<_, _≤_}
 use native.Mathlib.Omega.{arith}
 use lib.Dec.{eqb, ltb, leb}
 use lib.ListN.{length, getD, set}
 use Rattle.std.specs.Holes.{inserted, removed}
 use Rattle.std.specs.Orderings.{Decides}
 use Rattle.std.proofs.shelf.Lists.{length-map, map-set, set-getD, getD-map, getD-default}
-use Rattle.std.proofs.shelf.Tests.{and-parts, and-from, and-left, and-right, not-from-true, not-from-false, not-true, or-parts, or-from, ltb-false, le-ltb, eq-eqb, eqb-true, cases-bool, both-ways}
+use Rattle.std.proofs.shelf.Tests.{and-parts, and-from, and-right, not-from-true, not-from-false, not-true, or-parts, or-from, ltb-false, le-ltb, eq-eqb, eqb-true, cases-bool, both-ways}
 use Rattle.places.specs.declared.Places.{Places}
 use Rattle.places.specs.Has.{has}
 use Rattle.planner.specs.declared.machine.Machine.{Machine}

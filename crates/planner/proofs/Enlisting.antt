@@ -1,15 +1,13 @@
 -- A machine that is missing, put at its place.
 use mathlib.Core.Path.{_≡_, refl, sym, ap, _∙_}
-use mathlib.Core.Bool.{true, false, _&&_, not}
 use mathlib.Core.List.{List, [], _∷_}
 use Prim.Native.Nat.{ℕ, zero, suc, _<_}
 use native.Mathlib.Omega.{arith}
 use lib.Dec.{ltb}
 use Rattle.std.specs.Holes.{inserted}
-use Rattle.std.proofs.shelf.Tests.{cond-true, cond-false, lt-ltb, le-ltb, and-from, not-from-false}
+use Rattle.std.proofs.shelf.Tests.{cond-true, cond-false, lt-ltb, le-ltb}
 use Rattle.planner.specs.declared.machine.Machine.{Machine}
-use Rattle.planner.specs.Numbers.{Missing, outside}
-use Rattle.planner.specs.Ranges.{machine-in-range}
+use Rattle.planner.specs.Numbers.{Missing}
 use Rattle.planner.specs.Standing.{machine-numbers, with-machine}
 use Rattle.planner.proofs.Records.{missing-next}
 
@@ -22,10 +20,3 @@ with-machine-inserted m (k ∷ ks) (suc i) miss =
     let lt : k .number < m .number = miss .lower 0 (omega arith) in
     ap (λ ns. k ∷ ns) (with-machine-inserted m ks i (missing-next (m .number) (k .number) (machine-numbers ks) i miss))
     ∙ sym (cond-false (ltb (m .number) (k .number)) (m ∷ k ∷ ks) (k ∷ with-machine m ks) (le-ltb (m .number) (k .number) (omega arith)))
-
-pub in-range-from : (m : Machine) → outside 1 9999 (m .number) ≡ false → outside 1 9999 (m .terms .ticks) ≡ false
-    → outside 1 999 (m .terms .lot) ≡ false → outside 0 999999 (m .terms .backlog) ≡ false → machine-in-range m ≡ true
-in-range-from m number ticks lot backlog =
-    and-from _ _
-    (and-from _ _ (not-from-false _ number) (not-from-false _ ticks))
-    (and-from _ _ (not-from-false _ lot) (not-from-false _ backlog))

@@ -20,14 +20,14 @@ use Rattle.planner.proofs.Orders.{ascending-lt}
 use Rattle.planner.proofs.Records.{found-among}
 
 -- a number among some stands at a place
-pub among-at : (n : ℕ) (ns : List ℕ) → among n ns ≡ true → (i : ℕ) × (i < length ns) × (getD ns i 0 ≡ n)
+among-at : (n : ℕ) (ns : List ℕ) → among n ns ≡ true → (i : ℕ) × (i < length ns) × (getD ns i 0 ≡ n)
 among-at n [] is = absurd (both-ways false refl is)
 among-at n (k ∷ ks) is =
     ⊎-elim (λ here. (0, omega arith, eqb-true k n here))
     (λ later. let p = among-at n ks later in (suc (p .0), omega (arith, p .1), p .2))
     (or-cases (eqb k n) (among n ks) is)
 
-pub numbers-none : (held : ℕ → Bool) (ms : List Machine) → ((k : ℕ) → k < length ms → held k ≡ false) → numbers-at held ms ≡ []
+numbers-none : (held : ℕ → Bool) (ms : List Machine) → ((k : ℕ) → k < length ms → held k ≡ false) → numbers-at held ms ≡ []
 numbers-none held [] none = refl
 numbers-none held (m ∷ ms) none = cond-false (held 0) _ _ (none 0 (omega arith)) ∙ numbers-none (λ i. held (suc i)) ms (λ k lt. none (suc k) (omega arith))
 
@@ -49,7 +49,7 @@ eqb-suc : (k i : ℕ) → eqb (suc k) (suc i) ≡ eqb k i
 eqb-suc k i = grind (arith, tells)
 
 -- a set with one place more, behind all that it had
-pub numbers-push : (held more : ℕ → Bool) (ms : List Machine) (i : ℕ) → i < length ms
+numbers-push : (held more : ℕ → Bool) (ms : List Machine) (i : ℕ) → i < length ms
     → ((k : ℕ) → i ≤ k → held k ≡ false) → ((k : ℕ) → more k ≡ (held k || eqb k i))
     → numbers-at more ms ≡ numbers-at held ms ++ getD (machine-numbers ms) i 0 ∷ []
 unfolding put
@@ -64,7 +64,7 @@ numbers-push held more (m ∷ ms) (suc i) lt none adds =
     (numbers-push (λ k. held (suc k)) (λ k. more (suc k)) ms i (omega arith) (λ k le. none (suc k) (omega arith)) (λ k. adds (suc k) ∙ ap (λ t. held (suc k) || t) (eqb-suc k i)))
 
 -- the number of a machine at a held place is among them
-pub numbers-among : (held : ℕ → Bool) (ms : List Machine) (k : ℕ) → k < length ms → held k ≡ true → among (getD (machine-numbers ms) k 0) (numbers-at held ms) ≡ true
+numbers-among : (held : ℕ → Bool) (ms : List Machine) (k : ℕ) → k < length ms → held k ≡ true → among (getD (machine-numbers ms) k 0) (numbers-at held ms) ≡ true
 unfolding put
 numbers-among held [] k lt is = absurd (omega arith)
 numbers-among held (m ∷ ms) zero lt is =
@@ -74,7 +74,7 @@ numbers-among held (m ∷ ms) (suc k) lt is =
     put-among (held 0) (m .number) (getD (machine-numbers ms) k 0) (numbers-at (λ i. held (suc i)) ms) (numbers-among (λ i. held (suc i)) ms k (omega arith) is)
 
 -- where the numbers ascend, a number among the first j is below the next
-pub below-next : (ns : List ℕ) (j n : ℕ) → ascending ns ≡ true → j < length ns → among n (take j ns) ≡ true → n < getD ns j 0
+below-next : (ns : List ℕ) (j n : ℕ) → ascending ns ≡ true → j < length ns → among n (take j ns) ≡ true → n < getD ns j 0
 below-next ns j n up lt is =
     let p = among-at n (take j ns) is in
     let few : p .0 < j = omega (arith, p .1, length-take j ns) in
@@ -152,7 +152,7 @@ numbers-from held (m ∷ ms) n is =
     (put-cases (held 0) (m .number) n (numbers-at (λ i. held (suc i)) ms) is)
 
 -- a machine's number is among them just where its place is held
-pub numbers-held : (held : ℕ → Bool) (ms : List Machine) → ascending (machine-numbers ms) ≡ true
+numbers-held : (held : ℕ → Bool) (ms : List Machine) → ascending (machine-numbers ms) ≡ true
     → (k : ℕ) → k < length ms → among (getD (machine-numbers ms) k 0) (numbers-at held ms) ≡ held k
 numbers-held held ms up k lt =
     ⊎-elim (λ is. numbers-among held ms k lt is ∙ sym is)

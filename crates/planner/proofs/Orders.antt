@@ -18,15 +18,15 @@ rising-above n (k ∷ ks) up zero lt = ltb-true n k (and-parts (ltb n k) (rising
 rising-above n (k ∷ ks) up (suc j) lt =
     omega (arith, ltb-true n k (and-parts (ltb n k) (rising k ks) up .0), rising-above k ks (and-parts (ltb n k) (rising k ks) up .1) j (omega arith))
 
+pub rising-ascends : (n : ℕ) (ns : List ℕ) → rising n ns ≡ true → ascending ns ≡ true
+rising-ascends n [] up = refl
+rising-ascends n (k ∷ ks) up = and-parts (ltb n k) (rising k ks) up .1
+
 pub ascending-lt : (ns : List ℕ) → ascending ns ≡ true → (i j : ℕ) → i < j → j < length ns → getD ns i 0 < getD ns j 0
 ascending-lt [] up i j lt within = absurd (omega arith)
 ascending-lt (n ∷ ns) up i zero lt within = absurd (omega arith)
 ascending-lt (n ∷ ns) up zero (suc j) lt within = rising-above n ns up j (omega arith)
-ascending-lt (n ∷ ns) up (suc i) (suc j) lt within = ascending-lt ns (tail n ns up) i j (omega arith) (omega arith)
-  where
-    tail : (n : ℕ) (ns : List ℕ) → rising n ns ≡ true → ascending ns ≡ true
-    tail n [] up = refl
-    tail n (k ∷ ks) up = and-parts (ltb n k) (rising k ks) up .1
+ascending-lt (n ∷ ns) up (suc i) (suc j) lt within = ascending-lt ns (rising-ascends n ns up) i j (omega arith) (omega arith)
 
 -- what a binary search for n has learned: n stands at no place below low, and at none from high on
 pub record Between (n : ℕ) (ns : List ℕ) (low high : ℕ) : Type 0 where

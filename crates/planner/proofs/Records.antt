@@ -1,15 +1,16 @@
 -- Records in ascending number: what a record put in, taken out or replaced at its place leaves.
-use mathlib.Core.Path.{_≡_, refl, sym, ap, _∙_}
+use mathlib.Core.Path.{_≡_, refl}
 use mathlib.Core.Logic.{⊎-elim}
-use mathlib.Core.Bool.{Bool, true, false, cond, _&&_, _||_}
-use mathlib.Core.List.{List, [], _∷_, _++_, map}
-use Prim.Native.Nat.{ℕ, zero, suc, _+_, _<_, _≤_}
+use mathlib.Core.Bool.{Bool, true, false}
+use mathlib.Core.List.{List, [], _∷_, map}
+use Prim.Native.Nat.{ℕ, zero, suc, _<_, _≤_}
 use native.Mathlib.Omega.{arith}
 use lib.Dec.{eqb, ltb}
-use lib.ListN.{length, getD, set, take, drop}
+use lib.ListN.{length, getD, set}
 use Rattle.std.specs.Holes.{inserted, removed}
 use Rattle.std.proofs.shelf.Tests.{and-parts, and-from, ltb-true, lt-ltb, eq-eqb, ne-eqb, or-from, or-left, or-right, cases-lt}
 use Rattle.planner.specs.Numbers.{all, among, rising, ascending, Found, Missing}
+use Rattle.planner.proofs.Orders.{rising-above, rising-ascends}
 
 -- a number that is found is among them, and one that is missing is not
 pub found-among : (n : ℕ) (ns : List ℕ) (i : ℕ) → i < length ns → getD ns i 0 ≡ n → among n ns ≡ true
@@ -44,17 +45,9 @@ rising-from : (n k : ℕ) (ns : List ℕ) → rising n ns ≡ true → (0 < leng
 rising-from n k [] up lt = refl
 rising-from n k (j ∷ js) up lt = and-from (ltb k j) (rising j js) (lt-ltb k j (lt (omega arith))) (and-parts (ltb n j) (rising j js) up .1)
 
-rising-first : (n : ℕ) (ns : List ℕ) → rising n ns ≡ true → 0 < length ns → n < getD ns 0 0
-rising-first n [] up some = absurd (omega arith)
-rising-first n (j ∷ js) up some = ltb-true n j (and-parts (ltb n j) (rising j js) up .0)
-
 ascending-from : (k : ℕ) (ns : List ℕ) → ascending ns ≡ true → (0 < length ns → k < getD ns 0 0) → rising k ns ≡ true
 ascending-from k [] up lt = refl
 ascending-from k (j ∷ js) up lt = and-from (ltb k j) (rising j js) (lt-ltb k j (lt (omega arith))) up
-
-rising-ascends : (n : ℕ) (ns : List ℕ) → rising n ns ≡ true → ascending ns ≡ true
-rising-ascends n [] up = refl
-rising-ascends n (j ∷ js) up = and-parts (ltb n j) (rising j js) up .1
 
 module _ {R : Type 0} (key : R → ℕ) where
   rising-inserted : (r : R) (n : ℕ) (rs : List R) (i : ℕ) → rising n (map key rs) ≡ true → n < key r → Missing (key r) (map key rs) i
@@ -79,7 +72,7 @@ module _ {R : Type 0} (key : R → ℕ) where
   rising-removed n [] (suc i) up = refl
   rising-removed n (x ∷ xs) zero up =
       let parts = and-parts (ltb n (key x)) (rising (key x) (map key xs)) up in
-      rising-from (key x) n (map key xs) (parts .1) (λ some. omega (arith, ltb-true n (key x) (parts .0), rising-first (key x) (map key xs) (parts .1) some))
+      rising-from (key x) n (map key xs) (parts .1) (λ some. omega (arith, ltb-true n (key x) (parts .0), rising-above (key x) (map key xs) (parts .1) 0 some))
   rising-removed n (x ∷ xs) (suc i) up =
       let parts = and-parts (ltb n (key x)) (rising (key x) (map key xs)) up in
       and-from (ltb n (key x)) (rising (key x) (map key (removed xs i))) (parts .0) (rising-removed (key x) xs i (parts .1))

@@ -1,20 +1,19 @@
 -- The batches of a book: what a write at one place leaves of their sum, their holders and their view.
-use mathlib.Core.Path.{_≡_, refl, sym, ap, subst, _∙_}
-use mathlib.Core.Logic.{⊎-elim}
-use mathlib.Core.Bool.{Bool, true, false}
+use mathlib.Core.Path.{_≡_, refl, sym, ap, _∙_}
+use mathlib.Core.Bool.{true}
 use mathlib.Core.List.{List, [], _∷_, _++_, map}
-use Prim.Native.Nat.{ℕ, zero, suc, _+_, _-_, _<_, _≤_}
+use Prim.Native.Nat.{ℕ, zero, suc, _+_, _-_, _<_}
 use native.Mathlib.Omega.{arith}
 use lib.ListN.{length, getD, set, take, drop}
 use Rattle.std.specs.Holes.{inserted, removed}
-use Rattle.std.proofs.shelf.Lists.{map-append, take-map, drop-map, getD-past, getD-default}
-use Rattle.std.proofs.shelf.Tests.{both-ways, cases-lt}
+use Rattle.std.proofs.shelf.Lists.{map-append, take-map, drop-map}
+use Rattle.std.proofs.shelf.Tests.{both-ways}
 use Rattle.places.specs.Has.{has}
 use Rattle.places.proofs.Digits.{has-none}
 use Rattle.planner.specs.declared.machine.Machine.{Machine}
 use Rattle.planner.specs.declared.batch.Batch.{Batch}
-use Rattle.planner.specs.Standing.{Held, batch-numbers, all-blocks}
-use Rattle.planner.specs.Ranges.{no-batch, Manned, blocks-in}
+use Rattle.planner.specs.Standing.{batch-numbers, all-blocks}
+use Rattle.planner.specs.Ranges.{Manned, blocks-in}
 use Rattle.planner.specs.Views.{batch-of}
 
 -- the view keeps numbers and blocks

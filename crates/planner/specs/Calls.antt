@@ -1,7 +1,6 @@
 -- The calls that change what stands, with what they are handed, and what an accepted one makes of what stands.
 use mathlib.Core.List.{List}
 use Prim.Native.Nat.{ℕ}
-use Rattle.pace.specs.declared.terms.Terms.{Terms}
 use Rattle.planner.specs.declared.machine.Machine.{Machine}
 use Rattle.planner.specs.Standing.{Standing, with-machine, more-blocks, fewer-blocks}
 

@@ -10,11 +10,12 @@ use planner::OpenBook;
 use planner::Refusal;
 use std::io;
 
-pub(crate) type Pace = Backlog<Even>;
+// even blocks after a backlog
+pub(crate) type DayPace = Backlog<Even>;
 
 // Three machines alike; one that has no number and one that is enlisted already are refused.
-pub(crate) fn muster(rt: &LibcRuntime) -> io::Result<Muster<Pace>> {
-    let mut muster = Muster::begin(Backlog(Even));
+pub(crate) fn muster(rt: &LibcRuntime, pace: DayPace) -> io::Result<Muster<DayPace>> {
+    let mut muster = Muster::begin(pace);
     println!(rt, "Calls")?;
     enlist(rt, &mut muster, 1)?;
     enlist(rt, &mut muster, 2)?;
@@ -25,7 +26,7 @@ pub(crate) fn muster(rt: &LibcRuntime) -> io::Result<Muster<Pace>> {
 }
 
 // The batches of the morning; one for an unknown machine and one for other holders are refused.
-pub(crate) fn morning(rt: &LibcRuntime, book: &mut OpenBook<Pace>) -> io::Result<()> {
+pub(crate) fn morning(rt: &LibcRuntime, book: &mut OpenBook<DayPace>) -> io::Result<()> {
     hold(rt, book, 10, 4, &[1])?;
     hold(rt, book, 20, 5, &[1, 2])?;
     hold(rt, book, 30, 3, &[2, 3])?;
@@ -34,7 +35,7 @@ pub(crate) fn morning(rt: &LibcRuntime, book: &mut OpenBook<Pace>) -> io::Result
 }
 
 // More blocks come and some go; a batch that does not stand and too many blocks are refused.
-pub(crate) fn afternoon(rt: &LibcRuntime, book: &mut OpenBook<Pace>) -> io::Result<()> {
+pub(crate) fn afternoon(rt: &LibcRuntime, book: &mut OpenBook<DayPace>) -> io::Result<()> {
     hold(rt, book, 40, 6, &[2, 3])?;
     hold(rt, book, 50, 2, &[3])?;
     drop_blocks(rt, book, 40, 2)?;
@@ -43,7 +44,7 @@ pub(crate) fn afternoon(rt: &LibcRuntime, book: &mut OpenBook<Pace>) -> io::Resu
     drop_blocks(rt, book, 10, 5)
 }
 
-fn enlist(rt: &LibcRuntime, muster: &mut Muster<Pace>, number: u16) -> io::Result<()> {
+fn enlist(rt: &LibcRuntime, muster: &mut Muster<DayPace>, number: u16) -> io::Result<()> {
     let answer = muster.enlist(number, 1, 1, 0);
     print!(rt, "  enlist machine {number}: ")?;
     print_answer(rt, answer)
@@ -51,7 +52,7 @@ fn enlist(rt: &LibcRuntime, muster: &mut Muster<Pace>, number: u16) -> io::Resul
 
 fn hold(
     rt: &LibcRuntime,
-    book: &mut OpenBook<Pace>,
+    book: &mut OpenBook<DayPace>,
     batch: u32,
     blocks: u32,
     holders: &[u16],
@@ -66,7 +67,7 @@ fn hold(
 
 fn drop_blocks(
     rt: &LibcRuntime,
-    book: &mut OpenBook<Pace>,
+    book: &mut OpenBook<DayPace>,
     batch: u32,
     blocks: u32,
 ) -> io::Result<()> {

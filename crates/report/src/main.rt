@@ -9,14 +9,14 @@ use pace::Backlog;
 use pace::Even;
 
 fn main(rt: LibcRuntime) -> io::Result<()> {
-    let muster = day::muster(&rt)?;
+    let pace = Backlog(Even);
+    let muster = day::muster(&rt, pace)?;
     let mut book = muster.open();
     day::morning(&rt, &mut book)?;
     day::afternoon(&rt, &mut book)?;
     standing::print_machines(&rt, &book)?;
     standing::print_batches(&rt, &book)?;
     standing::print_sets(&rt, &book)?;
-    let pace = Backlog(Even);
     standing::print_moment(&rt, &book, &pace, 5)?;
     standing::print_moment(&rt, &book, &pace, 6)
 }

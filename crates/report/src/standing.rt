@@ -1,5 +1,5 @@
 // What stands in the book, printed.
-use crate::day::Pace;
+use crate::day::DayPace;
 use crate::sums::all_blocks;
 use crate::sums::all_capacities;
 use crate::sums::blocks_of_set;
@@ -12,7 +12,7 @@ use planner::Machine;
 use planner::OpenBook;
 use std::io;
 
-pub(crate) fn print_machines(rt: &LibcRuntime, book: &OpenBook<Pace>) -> io::Result<()> {
+pub(crate) fn print_machines(rt: &LibcRuntime, book: &OpenBook<DayPace>) -> io::Result<()> {
     println!(rt, "Machines: number, ticks, lot, backlog")?;
     for machine in book.machines() {
         let number = machine.number;
@@ -24,7 +24,7 @@ pub(crate) fn print_machines(rt: &LibcRuntime, book: &OpenBook<Pace>) -> io::Res
     Ok(())
 }
 
-pub(crate) fn print_batches(rt: &LibcRuntime, book: &OpenBook<Pace>) -> io::Result<()> {
+pub(crate) fn print_batches(rt: &LibcRuntime, book: &OpenBook<DayPace>) -> io::Result<()> {
     println!(rt, "Batches: number, blocks, holders")?;
     for batch in book.batches() {
         let number = batch.number;
@@ -37,7 +37,7 @@ pub(crate) fn print_batches(rt: &LibcRuntime, book: &OpenBook<Pace>) -> io::Resu
 }
 
 // Each set of holders once, where the first of its batches stands.
-pub(crate) fn print_sets(rt: &LibcRuntime, book: &OpenBook<Pace>) -> io::Result<()> {
+pub(crate) fn print_sets(rt: &LibcRuntime, book: &OpenBook<DayPace>) -> io::Result<()> {
     println!(rt, "Blocks by set of holders")?;
     let batches = book.batches();
     for (i, batch) in batches.iter().enumerate() {
@@ -53,8 +53,8 @@ pub(crate) fn print_sets(rt: &LibcRuntime, book: &OpenBook<Pace>) -> io::Result<
 
 pub(crate) fn print_moment(
     rt: &LibcRuntime,
-    book: &OpenBook<Pace>,
-    meter: &Pace,
+    book: &OpenBook<DayPace>,
+    meter: &DayPace,
     moment: u64,
 ) -> io::Result<()> {
     println!(rt, "Capacities at moment {moment}")?;

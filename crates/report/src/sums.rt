@@ -13,7 +13,6 @@ use places::Places;
 use places::PlacesPartialEq;
 use planner::Batch;
 use planner::Machine;
-use planner::OpenBook;
 
 // The blocks of all batches with just these holders.
 pub(crate) fn blocks_of_set(batches: &[Batch], holders: Places) -> u32

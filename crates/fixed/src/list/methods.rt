@@ -1,7 +1,7 @@
 // As with `Vec`, a place that is handed in has to be one of the list's, or for an insertion its end, and an insertion needs room.
 ghost use mathlib.Core.Path.{_≡_};
 ghost use mathlib.Core.List.{[]};
-ghost use Prim.Native.Nat.{ℕ, _<_, _≤_};
+ghost use Prim.Native.Nat.{_<_, _≤_};
 ghost use lib.Dec.{leb};
 ghost use lib.ListN.{length, set};
 ghost use Rattle.std.specs.Holes.{inserted, removed};

@@ -1,8 +1,7 @@
-use mathlib.Core.Path.{_≡_, sym, _∙_}
+use mathlib.Core.Path.{sym}
 use mathlib.Core.List.{List, map}
-use Prim.Native.Nat.{ℕ, _+_, _-_, _/_, _<_}
+use Prim.Native.Nat.{ℕ, _+_, _-_, _/_}
 use native.Mathlib.Omega.{arith}
-use lib.ListN.{length, getD}
 use Rattle.std.proofs.shelf.Lists.{length-map}
 use Rattle.planner.proofs.Orders.{between-none, between-above, between-below, between-found, between-missing, key-at}
 use Rattle.planner.proofs.lookup.find.Needs as need

@@ -1,4 +1,3 @@
-use mathlib.Core.Path.{sym}
 use native.Mathlib.Omega.{arith}
 use Rattle.std.proofs.shelf.Tests.{both-ways}
 use Rattle.places.specs.Has.{has}

@@ -1,8 +1,8 @@
-use mathlib.Core.Path.{_≡_, refl, ap, subst, sym, _∙_}
-use Prim.Native.Nat.{ℕ, _+_, _-_, _≤_, _<_}
+use mathlib.Core.Path.{_≡_, refl, ap, _∙_}
+use Prim.Native.Nat.{ℕ, _+_, _-_, _≤_}
 use native.Mathlib.Omega.{arith}
-use lib.ListN.{length, take, set, length-take, length-set}
-use Rattle.fixed.proofs.Edits.{Apart, apart-none, apart-more, apart-all}
+use lib.ListN.{take, set, length-take, length-set}
+use Rattle.fixed.proofs.Edits.{apart-none, apart-more, apart-all}
 use Rattle.fixed.proofs.list.FixedVec.insert.Needs as need
 
 pub loop-i-holds : need.loop-i-holds

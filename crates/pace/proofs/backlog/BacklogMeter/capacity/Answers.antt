@@ -22,8 +22,11 @@ pub returns-else-moment-backlog : need.returns-else-moment-backlog
 returns-else-moment-backlog g c =
     record {
       counts-the-table =
-          omega (arith, c .capacity .ensures .counts-the-table,
-          capacity-after-backlog (g .P·Pace .table (c .args .self .now .0) (c .args .terms)) (c .args .terms .backlog) (c .args .moment) (omega arith) (omega arith));
+          omega (
+            arith,
+            c .capacity .ensures .counts-the-table,
+            capacity-after-backlog (g .P·Pace .table (c .args .self .now .0) (c .args .terms)) (c .args .terms .backlog) (c .args .moment) (omega arith) (omega arith),
+          );
       is-none-before-the-backlog = λ lt. omega arith;
       is-all-from-the-latest-moment-on = λ le. omega arith;
     }

@@ -1,4 +1,4 @@
-use mathlib.Core.Path.{ap, sym, _∙_}
+use mathlib.Core.Path.{ap, sym}
 use Prim.Native.Nat.{ℕ, _/_, _*_, min, max}
 use native.Mathlib.Omega.{arith}
 use Rattle.pace.specs.Moments.{rounded-up}

@@ -1,15 +1,11 @@
 use mathlib.Core.Path.{_≡_, refl, sym, ap, _∙_}
-use mathlib.Core.Bool.{true, false, not, _&&_}
-use mathlib.Core.List.{List, [], _∷_}
-use Prim.Native.Nat.{ℕ, _+_, _≤_}
-use native.Mathlib.Omega.{arith}
+use mathlib.Core.Bool.{false}
+use mathlib.Core.List.{[], _∷_}
+use Prim.Native.Nat.{ℕ, _+_}
 use lib.Dec.{ltb}
-use lib.ListN.{length}
-use Rattle.std.proofs.shelf.Tests.{both-ways, and-parts, not-true, ltb-false}
+use Rattle.std.proofs.shelf.Tests.{both-ways, ltb-false}
 use Rattle.std.proofs.shelf.Results.{err-from-errBy}
 use Rattle.fixed.specs.Items.{items}
-use Rattle.planner.specs.declared.machine.Machine.{Machine}
-use Rattle.planner.specs.declared.batch.Batch.{Batch}
 use Rattle.planner.specs.declared.refusal.Refusal.the-variants.{BatchNumber, Blocks, HolderCount, HolderOrder, MachineUnknown, OtherHolders, BatchesFull, BatchPasses, BookPasses}
 use Rattle.planner.specs.declared.book.Book.{Book}
 use Rattle.planner.specs.Standing.{Standing, all-blocks}

@@ -1,5 +1,5 @@
 use mathlib.Core.Path.{_≡_}
-use Prim.Native.Nat.{_-_, _≤_}
+use Prim.Native.Nat.{_-_}
 use lib.ListN.{getD, drop}
 use Rattle.planner.specs.Numbers.{rising, ascending}
 use Rattle.planner.proofs.roster.methods.ascends.Given as given
