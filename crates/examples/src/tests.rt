@@ -28,22 +28,24 @@ const ENLISTS: [(u16, u16, u16, u32, u8); 10] = [
     (9_999, 9_999, 999, 999_999, 42),
 ];
 
-// the number and the blocks of a batch that is held in the full book, its first and its second holder, and what is told;
-// a second holder of 0 stands for none
-const HOLDS: [(u32, u32, u16, u16, u8); 13] = [
-    (0, 0, 1, 0, 15),
-    (100_000, 1, 1, 0, 15),
-    (1, 100_000, 9, 9, 16),
-    (1, 1, 9, 9, 18),
-    (1, 1, 2, 1, 18),
-    (1, 1, 2, 9, 43),
-    (200, 1, 65_535, 0, 43),
-    (200, 1, 0, 0, 43),
-    (1, 1, 2, 0, 45),
-    (200, 1, 1, 0, 44),
-    (1, 1, 1, 0, 46),
-    (10, 1, 1, 0, 47),
-    (11, 99_998, 1, 0, 47),
+// the number, the blocks and the holders of a batch that is held in the full book, and what is told
+const HOLDS: [(u32, u32, &[u16], u8); 16] = [
+    (0, 0, &[1], 15),
+    (100_000, 1, &[1], 15),
+    (1, 0, &[], 16),
+    (1, 100_000, &[9, 9], 16),
+    (1, 1, &[], 17),
+    (1, 1, &[2; 33], 17),
+    (1, 1, &[9, 9], 18),
+    (1, 1, &[2, 1], 18),
+    (1, 1, &[2, 9], 43),
+    (200, 1, &[65_535], 43),
+    (200, 1, &[0], 43),
+    (1, 1, &[2], 45),
+    (200, 1, &[1], 44),
+    (1, 1, &[1], 46),
+    (10, 1, &[1], 47),
+    (11, 99_998, &[1], 47),
 ];
 
 // the number and the blocks of a batch that are dropped from the full book, and what is told
@@ -93,16 +95,7 @@ fn the_first_check_that_applies_is_told() -> Result<(), Fail> {
         check_eq(told(muster.enlist(number, ticks, lot, backlog)), refusal)?;
     }
     let mut book = full_book();
-    check_eq(told(book.hold(1, 0, &[])), 16)?;
-    check_eq(told(book.hold(1, 1, &[])), 17)?;
-    check_eq(told(book.hold(1, 1, &[2; 33])), 17)?;
-    for (batch, blocks, first, second, refusal) in HOLDS {
-        let both = [first, second];
-        let holders = if second == 0 {
-            &both[0..1]
-        } else {
-            &both[0..2]
-        };
+    for (batch, blocks, holders, refusal) in HOLDS {
         check_eq(told(book.hold(batch, blocks, holders)), refusal)?;
     }
     for (batch, blocks, refusal) in DROPS {

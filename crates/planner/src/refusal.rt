@@ -7,7 +7,7 @@ ghost use Rattle.planner.specs.Refusals.{case-of, refusal-in};
 
 #[derive(Clone, Copy, Debug)]
 pub enum Refusal {
-    // for what was handed in: outside its range
+    // refused for what was handed in: 11 to 16 are outside their ranges
     MachineNumber = 11,
     Ticks = 12,
     Lot = 13,
@@ -18,22 +18,28 @@ pub enum Refusal {
     HolderCount = 17,
     // not strictly ascending
     HolderOrder = 18,
-    // for how the muster or the book stands
+    // refused for how the muster or the book stands: a machine with this number is enlisted
     MachineStands = 41,
+    // 32 machines stand
     MachinesFull = 42,
+    // no machine has the number
     MachineUnknown = 43,
+    // 128 batches stand, and this is another
     BatchesFull = 44,
+    // the batch stands with other holders
     OtherHolders = 45,
     // the batch would pass 99,999 blocks
     BatchPasses = 46,
     // the book would pass 1,000,000 blocks
     BookPasses = 47,
+    // no batch has the number
     BatchUnknown = 48,
     // the batch has fewer blocks
     BatchFewer = 49,
 }
 
 impl Refusal {
+    // The number by which it is told.
     pub fn number(self) -> u8
         ensures is_the_number_of_its_case { λ r. ⌜ r ≡ case-of self .number ⌝ }
     {

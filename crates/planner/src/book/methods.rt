@@ -29,7 +29,7 @@ use places::PlacesPartialEq;
 
 impl Book {
     // The machines, and no batch.
-    pub fn new(roster: Roster) -> Book
+    pub(crate) fn new(roster: Roster) -> Book
         ensures holds_the_machines_and_no_batch { λ r. ⌜ standing-of r ≡ mustered roster ⌝ }
     {
         let spare = Batch {
@@ -44,20 +44,20 @@ impl Book {
         }
     }
 
-    pub fn machines(&self) -> &[Machine]
+    pub(crate) fn machines(&self) -> &[Machine]
         ensures lends_the_machines { λ r. ⌜ now r ≡ machines-in (now (self .entry)) ⌝ }
     {
         self.roster.machines()
     }
 
-    pub fn batches(&self) -> &[Batch]
+    pub(crate) fn batches(&self) -> &[Batch]
         ensures lends_the_batches { λ r. ⌜ now r ≡ batches-in (now (self .entry)) ⌝ }
     {
         self.batches.as_slice()
     }
 
     // The batch with the number and its place, or else the place at which it would stand.
-    pub fn find(&self, number: u32) -> Result<(usize, Batch), usize>
+    pub(crate) fn find(&self, number: u32) -> Result<(usize, Batch), usize>
         ensures finds_the_place { λ r. ⌜ Cases r (λ p. Found number (numbers-of (batches-in (now (self .entry)))) (p .0)) (Missing number (numbers-of (batches-in (now (self .entry))))) ⌝ }
         ensures reads_the_batch { λ r. ⌜ made r (λ p. p .1 ≡ getD (batches-in (now (self .entry))) (p .0) (p .1)) ⌝ }
     {
@@ -69,7 +69,7 @@ impl Book {
     }
 
     // Adds blocks to a batch, or starts the batch.
-    pub fn hold(&mut self, number: u32, blocks: u32, holders: &[u16]) -> Result<(), Refusal>
+    pub(crate) fn hold(&mut self, number: u32, blocks: u32, holders: &[u16]) -> Result<(), Refusal>
         ensures refuses_by_the_first_check_that_applies { λ r. ⌜ refusal-in r ≡ first-refusal (Hold number blocks (now (holders .entry))) (standing-of (now (self .entry))) ⌝ }
         ensures changes_nothing_where_refused { λ r. ⌜ (isOk r ≡ false → now (self .exit) ≡ now (self .entry)) ⌝ }
         ensures adds_the_blocks_where_accepted { λ r. ⌜ (isOk r ≡ true → standing-of (now (self .exit)) ≡ after (Hold number blocks (now (holders .entry))) (standing-of (now (self .entry)))) ⌝ }
@@ -83,7 +83,7 @@ impl Book {
     }
 
     // Takes blocks from a batch, which is removed with its last one.
-    pub fn drop(&mut self, number: u32, blocks: u32) -> Result<(), Refusal>
+    pub(crate) fn drop(&mut self, number: u32, blocks: u32) -> Result<(), Refusal>
         ensures refuses_by_the_first_check_that_applies { λ r. ⌜ refusal-in r ≡ first-refusal (Drop number blocks) (standing-of (now (self .entry))) ⌝ }
         ensures changes_nothing_where_refused { λ r. ⌜ (isOk r ≡ false → now (self .exit) ≡ now (self .entry)) ⌝ }
         ensures takes_the_blocks_where_accepted { λ r. ⌜ (isOk r ≡ true → standing-of (now (self .exit)) ≡ after (Drop number blocks) (standing-of (now (self .entry)))) ⌝ }

@@ -26,7 +26,7 @@ use places::Places;
 
 impl Roster {
     // No machine.
-    pub fn new() -> Roster
+    pub(crate) fn new() -> Roster
         ensures holds_no_machine { λ r. ⌜ machines-of r ≡ [] ⌝ }
     {
         let spare = Machine {
@@ -42,21 +42,21 @@ impl Roster {
         }
     }
 
-    pub fn machines(&self) -> &[Machine]
+    pub(crate) fn machines(&self) -> &[Machine]
         ensures lends_the_machines { λ r. ⌜ now r ≡ machines-of (now (self .entry)) ⌝ }
     {
         self.machines.as_slice()
     }
 
     // The place of the machine with the number, or else the place at which it would stand.
-    pub fn find(&self, number: u16) -> Result<usize, usize>
+    pub(crate) fn find(&self, number: u16) -> Result<usize, usize>
         ensures finds_the_place { λ r. ⌜ Cases r (Found number (machine-numbers (machines-of (now (self .entry))))) (Missing number (machine-numbers (machines-of (now (self .entry))))) ⌝ }
     {
         find(self.machines(), number as u32)
     }
 
     // Adds a machine at its place in ascending number.
-    pub fn enlist(&mut self, machine: Machine) -> Result<(), Refusal>
+    pub(crate) fn enlist(&mut self, machine: Machine) -> Result<(), Refusal>
         ensures refuses_by_the_first_check_that_applies { λ r. ⌜ refusal-in r ≡ first-refusal (Enlist machine) (mustered (now (self .entry))) ⌝ }
         ensures changes_nothing_where_refused { λ r. ⌜ (isOk r ≡ false → now (self .exit) ≡ now (self .entry)) ⌝ }
         ensures adds_the_machine_where_accepted { λ r. ⌜ (isOk r ≡ true → mustered (now (self .exit)) ≡ after (Enlist machine) (mustered (now (self .entry)))) ⌝ }
@@ -71,13 +71,13 @@ impl Roster {
     }
 
     // The places of the holders of a batch, by their machine numbers.
-    pub fn places_of(&self, holders: &[u16]) -> Result<Places, Refusal>
+    pub(crate) fn places_of(&self, holders: &[u16]) -> Result<Places, Refusal>
         ensures refuses_by_the_first_check_of_the_holders { λ r. ⌜ ((b n : ℕ) (bs : List Held) → refusal-in r ≡ first-of (Refusal.HolderCount ∷ Refusal.HolderOrder ∷ Refusal.MachineUnknown ∷ []) (handed (Hold b n (now (holders .entry)))) (record { machines = machines-of (now (self .entry)); batches = bs })) ⌝ }
         ensures holds_the_places_of_just_these_machines { λ r. ⌜ made r (λ p. numbers-at (has p) (machines-of (now (self .entry))) ≡ now (holders .entry)) ⌝ }
         ensures holds_places_of_machines_only { λ r. ⌜ made r (λ p. (k : ℕ) → has p k ≡ true → k < length (machines-of (now (self .entry)))) ⌝ }
     {
         refuse_if(
-            holders.len() < 1 || 32 < holders.len(),
+            holders.is_empty() || holders.len() > 32,
             Refusal::HolderCount,
         )?;
         refuse_if(!ascends(holders), Refusal::HolderOrder)?;
