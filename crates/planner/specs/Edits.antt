@@ -1,6 +1,6 @@
 -- Changes of a book's batches.
 --   edited e bs           the batches bs after the change e
---   CanBeMade e bs          the change can be made: its place is there, and an insertion has room
+--   CanBeMade e bs        the change can be made: its place is there, and an insertion has room
 --   Sound n bs blocks     what the type of a book with n machines keeps of its batches bs, which have so many blocks
 --   Asked ..              blocks for a batch, both in range, with the places of the machines that are to hold it
 use mathlib.Core.Path.{_≡_}
