@@ -2,6 +2,8 @@
 //
 // Each call fills a book by the planner's own calls, settles it, reopens and settles it `again` times more, and
 // writes out the loads. It answers 0, or the number of the first refusal.
+#![tactic(auto)]
+
 use pace::{Backlog, Even, Lots, Meter};
 use planner::{Muster, OpenBook, Refusal};
 

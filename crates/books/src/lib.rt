@@ -1,5 +1,7 @@
 // The plain tables behind musters and books: machines, batches, refusals, the lookup by number, and the calls on
 // what stands, whatever the pace.
+#![tactic(auto)]
+
 mod batch;
 mod book;
 mod edit;

@@ -2,6 +2,8 @@
 //
 // A book's machines stand at the places 0 to 31 in ascending number. Every contract here says through `has`
 // which places a set holds, and nothing else.
+#![tactic(auto)]
+
 ghost use Rattle.std.specs.Prelude.{◌≡◌, ℕ, false, not, ◌&&◌, ◌||◌, Decides, MatchOption, ◌==◌, nat_eq, nat_lt};
 ghost use Rattle.std.specs.Ordering.{on};
 ghost use Rattle.places.specs.Has.{has, size, Lowest};

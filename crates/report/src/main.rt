@@ -1,4 +1,6 @@
 // Takes an office day in through the planner's calls, and prints what stands at its end.
+#![tactic(auto)]
+
 use std::io;
 
 mod day;

@@ -1,4 +1,6 @@
 // Takes an office day in through the planner's calls, settles the book twice, and prints who sends what.
+#![tactic(auto)]
+
 use std::io;
 
 mod day;

@@ -1,4 +1,6 @@
 // A book's blocks, shared out among the machines that hold them.
+#![tactic(auto)]
+
 mod flow;
 mod links;
 mod mark;
