@@ -60,8 +60,8 @@ module _ (ms : List Machine) (bs : List Batch) where
     pub missing_blocks : blocks_of b (map (batch_of ms) bs) ≡ 0
     missing_blocks = blocks_missing b (map (batch_of ms) bs) missing_stands
 
-    pub missing_full : (is-full : Bool) → is-full ≡ leb 128 (length bs) → is-full ≡ (leb 128 (length (map (batch_of ms) bs)) && not (among b (batch_numbers (map (batch_of ms) bs))))
-    missing_full is-full e =
+    pub missing_full : (is_full : Bool) → is_full ≡ leb 128 (length bs) → is_full ≡ (leb 128 (length (map (batch_of ms) bs)) && not (among b (batch_numbers (map (batch_of ms) bs))))
+    missing_full is_full e =
         e ∙ ap (λ (n : ℕ). leb 128 n) (sym long) ∙ sym (and-true (leb 128 (length (map (batch_of ms) bs))))
         ∙ ap (λ t. leb 128 (length (map (batch_of ms) bs)) && not t) (sym missing_stands)
 

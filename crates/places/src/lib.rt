@@ -102,7 +102,10 @@ impl PartialEq for Places {
     ghost laws = { Prim.search (comparing, rules) };
 
     // Whether both hold the same places.
-    fn eq(&self, other: &Places) -> bool {
+    fn eq(&self, other: &Places) -> bool
+        ensures compares_the_words { result ≡ on (λ v. v.word) nat_eq self.now other.now }
+        ensures tells_whether_both_hold_the_same_places { Decides result ((k : ℕ) → has self.now k ≡ has other.now k) }
+    {
         self.word == other.word
     }
 }

@@ -110,26 +110,26 @@ todo_step L L' F F' N i apart li less more k = rw (less k, more k) (elim (cases_
 -- a look on from the place i, which is to do
 module _ {E : ℕ → ℕ → Bool} {from S todo : ℕ → Bool} {before stage : ℕ → ℕ} (s : Searching E from S todo before stage)
     (i : ℕ) (new S' todo' : ℕ → Bool) (hi : todo i ≡ true)
-    (is-new : (k : ℕ) → new k ≡ (E i k && not (S k))) (more : (k : ℕ) → S' k ≡ (S k || new k))
+    (is_new : (k : ℕ) → new k ≡ (E i k && not (S k))) (more : (k : ℕ) → S' k ≡ (S k || new k))
     (now-todo : (k : ℕ) → todo' k ≡ ((todo k && not (eqb k i)) || new k)) (low-new : (k : ℕ) → new k ≡ true → k < 32) where
   old : Within S S'
   old k e = more k ∙ ap (λ t. t || new k) e
 
   -- a place of S' is one of S, or i leads to it
   which : (k : ℕ) → S' k ≡ true → S k ≡ false → (new k ≡ true) × (E i k ≡ true)
-  which k e f = let n : new k ≡ true = sym (ap (λ t. t || new k) f) ∙ sym (more k) ∙ e in (n, left_of (E i k) (S k) (sym (is-new k) ∙ n))
+  which k e f = let n : new k ≡ true = sym (ap (λ t. t || new k) f) ∙ sym (more k) ∙ e in (n, left_of (E i k) (S k) (sym (is_new k) ∙ n))
     where
       left_of : (a b : Bool) → (a && not b) ≡ true → a ≡ true
       left_of a b h = grind arith
 
   not_new : (k : ℕ) → S k ≡ true → new k ≡ false
-  not_new k e = is-new k ∙ ap (λ t. E i k && not t) e ∙ none (E i k)
+  not_new k e = is_new k ∙ ap (λ t. E i k && not t) e ∙ none (E i k)
     where
       none : (a : Bool) → (a && not true) ≡ false
       none a = grind arith
 
   led_to : (k : ℕ) → E i k ≡ true → S' k ≡ true
-  led_to k e = more k ∙ ap (λ t. S k || t) (is-new k) ∙ either (E i k) (S k) e
+  led_to k e = more k ∙ ap (λ t. S k || t) (is_new k) ∙ either (E i k) (S k) e
     where
       either : (a b : Bool) → a ≡ true → (b || (a && not b)) ≡ true
       either a b h = grind arith
@@ -231,10 +231,10 @@ pub turned : {E : ℕ → ℕ → Bool} {from S S' L L' F F' new : ℕ → Bool}
     → ((k : ℕ) → L' k ≡ (L k && not (eqb k i))) → ((k : ℕ) → new k ≡ (E i k && not (S k))) → ((k : ℕ) → S' k ≡ (S k || new k))
     → ((k : ℕ) → F' k ≡ (F k || new k)) → ((k : ℕ) → new k ≡ true → k < 32) → Noted new i (size S') before stage before' stage'
     → Turned E from S S' L F L' F' before' stage'
-turned {E} {S = S} {S' = S'} {L = L} {L' = L'} {F = F} {F' = F'} {new = new} i s apart li takes is-new more found low n = record {
-  searching = searching_more s i new S' (λ k. L' k || F' k) hi is-new more step low n;
-  less = searching_less s i new S' (λ k. L' k || F' k) hi is-new more step low;
-  apart = λ k e. found k ∙ neither (F k) (new k) (apart k (was k e)) (is-new k ∙ out (E i k) (S k) (s.found k (either (L k) (F k) (was k e))));
+turned {E} {S = S} {S' = S'} {L = L} {L' = L'} {F = F} {F' = F'} {new = new} i s apart li takes is_new more found low n = record {
+  searching = searching_more s i new S' (λ k. L' k || F' k) hi is_new more step low n;
+  less = searching_less s i new S' (λ k. L' k || F' k) hi is_new more step low;
+  apart = λ k e. found k ∙ neither (F k) (new k) (apart k (was k e)) (is_new k ∙ out (E i k) (S k) (s.found k (either (L k) (F k) (was k e))));
 }
   where
     either : (a b : Bool) → a ≡ true → (a || b) ≡ true

@@ -28,14 +28,14 @@ module _ (d : ℕ) (bs : List Batch) {a b v u : ℕ} {x y : ℕ → ℕ → ℕ}
       → ((z : ℕ → ℕ) → Fewer b z g → ((j : ℕ) → leads_to next u j ≡ links d bs z j) → (j : ℕ) → has more j ≡ links d bs g j)
       → ((i j : ℕ) → i < m → leads_to next i j ≡ links d bs (λ c. x c i) j)
       → (i j : ℕ) → i < m → leads_to (set (set next v less) u more) i j ≡ links d bs (λ c. y c i) j
-  relinked m mv-v mv-u after-loss after-gain led i j l = elim (cases_eq i u) [
+  relinked m mv-v mv-u after_loss after_gain led i j l = elim (cases_eq i u) [
     | inl e ↦ rw e (
         ap (λ (p : Places). has p j) (get_or-set_same (set next v less) u more no_places (omega (arith, long, lu, length-set next v less)))
-        ∙ after-gain (λ c. x c u) gained (λ q. led u q mv-u) j ∙ links_same d bs j g (λ c. y c u) (λ c _. ap (leb d) (at-u c)))
+        ∙ after_gain (λ c. x c u) gained (λ q. led u q mv-u) j ∙ links_same d bs j g (λ c. y c u) (λ c _. ap (leb d) (at-u c)))
     | inr d-u ↦ ap (λ (p : Places). has p j) (get_or-set_other (set next v less) u i more no_places d-u) ∙ elim (cases_eq i v) [
       | inl e ↦ rw e (
           ap (λ (p : Places). has p j) (get_or-set_same next v less no_places (omega (arith, long, lv)))
-          ∙ after-loss (λ c. x c v) lost (λ q. led v q mv-v) j ∙ links_same d bs j f (λ c. y c v) (λ c _. ap (leb d) (at-v c)))
+          ∙ after_loss (λ c. x c v) lost (λ q. led v q mv-v) j ∙ links_same d bs j f (λ c. y c v) (λ c _. ap (leb d) (at-v c)))
       | inr d-v ↦ ap (λ (p : Places). has p j) (get_or-set_other next v i less no_places d-v) ∙ led i j l
           ∙ links_same d bs j (λ c. x c i) (λ c. y c i) (λ c _. ap (leb d) (moved_else mv i d-v d-u c))
     ]

@@ -3,8 +3,8 @@ use Rattle.std.proofs.lemmas.List.{drop_more, drop_all}
 use Rattle.books.specs.Ranges.{no_batch, blocks_in}
 use Rattle.report.proofs.sums.all_blocks.Goals as goal
 
-pub overflow-add-blocks : goal.overflow-add-blocks
-overflow-add-blocks c = omega (arith, ap blocks_in (drop_more c.args.batches.now c.loop-batch.batch-index no_batch c.loop-batch-test.true))
+pub overflow_add-blocks : goal.overflow_add-blocks
+overflow_add-blocks c = omega (arith, ap blocks_in (drop_more c.args.batches.now c.loop-batch.batch-index no_batch c.loop-batch-test.true))
 
 pub loop-batch-preserved : goal.loop-batch-preserved
 loop-batch-preserved c = omega (arith, ap blocks_in (drop_more c.args.batches.now c.loop-batch.batch-index no_batch c.loop-batch-test.true))

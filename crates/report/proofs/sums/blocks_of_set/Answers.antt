@@ -9,8 +9,8 @@ use Rattle.report.proofs.sums.blocks_of_set.Goals.{then-eq, else-eq}
 pub loop-batch-init : goal.loop-batch-init
 loop-batch-init c = counting_start (has c.args.holders) c.args.batches.now c.requires.few
 
-pub overflow-add-blocks : goal.overflow-add-blocks
-overflow-add-blocks c =
+pub overflow_add-blocks : goal.overflow_add-blocks
+overflow_add-blocks c =
     omega (
       arith,
       counting_fits (has c.args.holders) c.args.batches.now c.loop-batch.batch-index c.loop-batch.blocks no_batch

@@ -14,21 +14,21 @@ use Rattle.books.proofs.Checks.{past, accepted, go, stop, passed, by_the_checks}
 use Rattle.books.proofs.Changes.{kept, in_range, range_from, missing_stands, missing_blocks, missing_full, sound_inserted, view_inserted, found_within, found_full, found_blocks, found_other, sound_replaced, view_more}
 use Rattle.books.proofs.book.Book.edit_to_hold.Goals as goal
 
-pub returns-in-err-refuse-if : goal.returns-in-err-refuse-if
-returns-in-err-refuse-if c =
+pub returns-in_err-refuse_if : goal.returns-in_err-refuse_if
+returns-in_err-refuse_if c =
     let ms : List Machine = machines_of c.args.self.now.roster in
     let bs : List Batch = items c.args.self.now.batches in
     let f = c.in-Ok.ensures.finds_the_place in
     let read = c.in-Ok.ensures.reads_the_batch in
     let ne = c.ne.ensures in
-    let p = err_from_is_err_and c.from-residual.result c.from-residual.ensures.1 in
+    let p = err_from_is_err_and c.from_residual.result c.from_residual.ensures.1 in
     rw (p.1, p.2)
     record {
       refuses_by_the_first_check_of_the_batch = λ hs asked.
           by_the_checks (OtherHolders ∷ BatchesFull ∷ BatchPasses ∷ []) (handed (Hold c.args.number c.args.blocks hs)) (standing_of c.args.self.now)
           (stop (found_other ms bs c.args.number c.in-Ok.at c.in-Ok.batch f read c.args.holders hs c.args.self.now.roster.ascends
           c.args.self.now.manned asked.just asked.within c.ne.result ne.0 ne.1 ne.2)
-          c.in-err-refuse-if.ensures.refuses_just_where_it_applies);
+          c.in_err-refuse_if.ensures.refuses_just_where_it_applies);
       can_be_made = tt;
       leaves_the_batches_sound = tt;
       adds_the_blocks = tt;
@@ -38,68 +38,68 @@ returns-in-err-refuse-if c =
 passes : (sum a b n : ℕ) → sum ≡ min (a + n) (2 ^ 32 - 1) → b ≡ a → ltb 99999 sum ≡ ltb 99999 (b + n)
 passes sum a b n is e = grind (arith, nat_tests)
 
-pub returns-in-err-refuse-if-2 : goal.returns-in-err-refuse-if-2
-returns-in-err-refuse-if-2 c =
+pub returns-in_err-refuse_if-2 : goal.returns-in_err-refuse_if-2
+returns-in_err-refuse_if-2 c =
     let ms : List Machine = machines_of c.args.self.now.roster in
     let bs : List Batch = items c.args.self.now.batches in
     let f = c.in-Ok.ensures.finds_the_place in
     let read = c.in-Ok.ensures.reads_the_batch in
     let ne = c.ne.ensures in
-    let p = err_from_is_err_and c.from-residual-in-err-refuse-if-2.result c.from-residual-in-err-refuse-if-2.ensures.1 in
+    let p = err_from_is_err_and c.from_residual-in_err-refuse_if-2.result c.from_residual-in_err-refuse_if-2.ensures.1 in
     rw (p.1, p.2)
     record {
       refuses_by_the_first_check_of_the_batch = λ hs asked.
           by_the_checks (OtherHolders ∷ BatchesFull ∷ BatchPasses ∷ []) (handed (Hold c.args.number c.args.blocks hs)) (standing_of c.args.self.now)
           (go (found_other ms bs c.args.number c.in-Ok.at c.in-Ok.batch f read c.args.holders hs c.args.self.now.roster.ascends
           c.args.self.now.manned asked.just asked.within c.ne.result ne.0 ne.1 ne.2)
-          c.in-ok-refuse-if.ensures.refuses_just_where_it_applies
+          c.in_ok-refuse_if.ensures.refuses_just_where_it_applies
           (past (found_full ms bs c.args.number c.in-Ok.at c.in-Ok.batch f read)
-          (stop (passes c.saturating-add-total.result c.in-Ok.batch.blocks _ c.args.blocks c.saturating-add-total.ensures
+          (stop (passes c.saturating_add-total.result c.in-Ok.batch.blocks _ c.args.blocks c.saturating_add-total.ensures
           (found_blocks ms bs c.args.number c.in-Ok.at c.in-Ok.batch f read))
-          c.in-err-refuse-if-2.ensures.refuses_just_where_it_applies)));
+          c.in_err-refuse_if-2.ensures.refuses_just_where_it_applies)));
       can_be_made = tt;
       leaves_the_batches_sound = tt;
       adds_the_blocks = tt;
     }
 
-pub returns-in-err-refuse-if-3 : goal.returns-in-err-refuse-if-3
-returns-in-err-refuse-if-3 c =
+pub returns-in_err-refuse_if-3 : goal.returns-in_err-refuse_if-3
+returns-in_err-refuse_if-3 c =
     let ms : List Machine = machines_of c.args.self.now.roster in
     let bs : List Batch = items c.args.self.now.batches in
     let miss = c.in-Err.ensures.finds_the_place in
-    let p = err_from_is_err_and c.from-residual-in-err-refuse-if-3.result c.from-residual-in-err-refuse-if-3.ensures.1 in
+    let p = err_from_is_err_and c.from_residual-in_err-refuse_if-3.result c.from_residual-in_err-refuse_if-3.ensures.1 in
     rw (p.1, p.2)
     record {
       refuses_by_the_first_check_of_the_batch = λ hs asked.
           by_the_checks (OtherHolders ∷ BatchesFull ∷ BatchPasses ∷ []) (handed (Hold c.args.number c.args.blocks hs)) (standing_of c.args.self.now)
           (past (and_left _ _ (missing_stands ms bs c.args.number c.in-Err.at miss))
-          (stop (missing_full ms bs c.args.number c.in-Err.at miss c.is-full.result c.is-full.ensures.tells_whether_there_is_no_room)
-          c.in-err-refuse-if-3.ensures.refuses_just_where_it_applies));
+          (stop (missing_full ms bs c.args.number c.in-Err.at miss c.is_full.result c.is_full.ensures.tells_whether_there_is_no_room)
+          c.in_err-refuse_if-3.ensures.refuses_just_where_it_applies));
       can_be_made = tt;
       leaves_the_batches_sound = tt;
       adds_the_blocks = tt;
     }
 
-pub returns-in-ok-refuse-if-2 : goal.returns-in-ok-refuse-if-2
-returns-in-ok-refuse-if-2 c =
+pub returns-in_ok-refuse_if-2 : goal.returns-in_ok-refuse_if-2
+returns-in_ok-refuse_if-2 c =
     let ms : List Machine = machines_of c.args.self.now.roster in
     let bs : List Batch = items c.args.self.now.batches in
     let f = c.in-Ok.ensures.finds_the_place in
     let read = c.in-Ok.ensures.reads_the_batch in
     let ne = c.ne.ensures in
-    let sum : ℕ = c.saturating-add-total.result in
-    let few : sum ≤ 99999 = ltb-false 99999 sum (passed BatchPasses c.in-ok-refuse-if-2.ensures.refuses_just_where_it_applies) in
-    let is : sum ≡ c.in-Ok.batch.blocks + c.args.blocks = omega (arith, c.saturating-add-total.ensures, few) in
+    let sum : ℕ = c.saturating_add-total.result in
+    let few : sum ≤ 99999 = ltb-false 99999 sum (passed BatchPasses c.in_ok-refuse_if-2.ensures.refuses_just_where_it_applies) in
+    let is : sum ≡ c.in-Ok.batch.blocks + c.args.blocks = omega (arith, c.saturating_add-total.ensures, few) in
     record {
       refuses_by_the_first_check_of_the_batch = λ hs asked.
           by_the_checks (OtherHolders ∷ BatchesFull ∷ BatchPasses ∷ []) (handed (Hold c.args.number c.args.blocks hs)) (standing_of c.args.self.now)
           (go (found_other ms bs c.args.number c.in-Ok.at c.in-Ok.batch f read c.args.holders hs c.args.self.now.roster.ascends
           c.args.self.now.manned asked.just asked.within c.ne.result ne.0 ne.1 ne.2)
-          c.in-ok-refuse-if.ensures.refuses_just_where_it_applies
+          c.in_ok-refuse_if.ensures.refuses_just_where_it_applies
           (past (found_full ms bs c.args.number c.in-Ok.at c.in-Ok.batch f read)
-          (go (passes c.saturating-add-total.result c.in-Ok.batch.blocks _ c.args.blocks c.saturating-add-total.ensures
+          (go (passes c.saturating_add-total.result c.in-Ok.batch.blocks _ c.args.blocks c.saturating_add-total.ensures
           (found_blocks ms bs c.args.number c.in-Ok.at c.in-Ok.batch f read))
-          c.in-ok-refuse-if-2.ensures.refuses_just_where_it_applies accepted)));
+          c.in_ok-refuse_if-2.ensures.refuses_just_where_it_applies accepted)));
       can_be_made = found_within ms bs c.args.number c.in-Ok.at c.in-Ok.batch f read;
       leaves_the_batches_sound = λ hs asked.
           sound_replaced ms bs c.args.number c.in-Ok.at c.in-Ok.batch f read c.args.self.now.blocks (kept c.args.self.now)
@@ -108,23 +108,23 @@ returns-in-ok-refuse-if-2 c =
       adds_the_blocks = λ hs asked. rw is (view_more ms bs c.args.number c.in-Ok.at c.in-Ok.batch f read c.args.blocks hs);
     }
 
-pub returns-in-ok-refuse-if-3 : goal.returns-in-ok-refuse-if-3
-returns-in-ok-refuse-if-3 c =
+pub returns-in_ok-refuse_if-3 : goal.returns-in_ok-refuse_if-3
+returns-in_ok-refuse_if-3 c =
     let ms : List Machine = machines_of c.args.self.now.roster in
     let bs : List Batch = items c.args.self.now.batches in
     let miss = c.in-Err.ensures.finds_the_place in
-    let room = passed BatchesFull c.in-ok-refuse-if-3.ensures.refuses_just_where_it_applies in
+    let room = passed BatchesFull c.in_ok-refuse_if-3.ensures.refuses_just_where_it_applies in
     record {
       refuses_by_the_first_check_of_the_batch = λ hs asked.
           by_the_checks (OtherHolders ∷ BatchesFull ∷ BatchPasses ∷ []) (handed (Hold c.args.number c.args.blocks hs)) (standing_of c.args.self.now)
           (past (and_left _ _ (missing_stands ms bs c.args.number c.in-Err.at miss))
-          (go (missing_full ms bs c.args.number c.in-Err.at miss c.is-full.result c.is-full.ensures.tells_whether_there_is_no_room)
-          c.in-ok-refuse-if-3.ensures.refuses_just_where_it_applies
+          (go (missing_full ms bs c.args.number c.in-Err.at miss c.is_full.result c.is_full.ensures.tells_whether_there_is_no_room)
+          c.in_ok-refuse_if-3.ensures.refuses_just_where_it_applies
           (past (le-ltb 99999 _ (omega (arith, missing_blocks ms bs c.args.number c.in-Err.at miss, (in_range 1 99999 c.args.blocks asked.blocks_in_range).1)))
           accepted)));
       can_be_made = (
         omega (arith, miss.within, length-map bs (λ b. b.number)),
-        leb-false 128 (length bs) (sym c.is-full.ensures.tells_whether_there_is_no_room ∙ room),
+        leb-false 128 (length bs) (sym c.is_full.ensures.tells_whether_there_is_no_room ∙ room),
       );
       leaves_the_batches_sound = λ hs asked. sound_inserted ms bs c.args.number c.in-Err.at miss c.args.blocks c.args.self.now.blocks c.args.holders hs asked (kept c.args.self.now);
       adds_the_blocks = λ hs asked. view_inserted ms bs c.args.number c.in-Err.at miss c.args.blocks c.args.self.now.blocks c.args.holders hs asked;

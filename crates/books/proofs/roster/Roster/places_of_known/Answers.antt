@@ -14,8 +14,8 @@ use Rattle.books.proofs.roster.Roster.places_of_known.Goals as goal
 pub loop-number-init : goal.loop-number-init
 loop-number-init c = gathered_none (machines_of c.args.self.now) c.args.numbers.now (has c.empty-places.result) c.empty-places.ensures.holds_no_place
 
-pub returns-in-default : goal.returns-in-default
-returns-in-default c =
+pub returns-in_default : goal.returns-in_default
+returns-in_default c =
     let ms : List Machine = machines_of c.args.self.now in
     let ns : List ℕ = c.args.numbers.now in
     let j : ℕ = c.loop-number.number-index in
@@ -23,7 +23,7 @@ returns-in-default c =
       refuses_just_where_a_machine_is_unknown =
           sym (ap (λ t. cond (not t) (Some MachineUnknown) None)
           (gathered_unknown ms ns (has c.loop-number.places) j c.loop-number-test.true c.loop-number.invariant
-          (missing_among (get_or ns j 0) (machine_numbers ms) c.in-default.field-0 c.in-default.ensures.finds_the_place)));
+          (missing_among (get_or ns j 0) (machine_numbers ms) c.in_default.field-0 c.in_default.ensures.finds_the_place)));
       holds_the_places_of_just_these_machines = λ up. tt;
       holds_places_of_machines_only = tt;
     }

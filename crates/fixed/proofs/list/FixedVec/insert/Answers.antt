@@ -21,14 +21,15 @@ loop-i-preserved g c =
       omega arith,
     )
 
-pub overflow-add-self : goal.overflow-add-self
-overflow-add-self g c = omega (arith, length-take c.args.self.now.count c.args.self.now.slots, c.loop-i.invariant.1)
+pub overflow_add-self : goal.overflow_add-self
+overflow_add-self g c = omega (arith, length-take c.args.self.now.count c.args.self.now.slots, c.loop-i.invariant.1)
 
-pub invariant-of-self-2 : goal.invariant-of-self-2
-invariant-of-self-2 g c = (
-  length-set c.loop-i.self.slots c.args.at c.args.item ∙ c.loop-i.self.long,
-  (omega (arith, length-take c.args.self.now.count c.args.self.now.slots, c.loop-i.invariant.1), tt),
-)
+pub invariant_of-self-2 : goal.invariant_of-self-2
+invariant_of-self-2 g c =
+    record {
+      long = length-set c.loop-i.self.slots c.args.at c.args.item ∙ c.loop-i.self.long;
+      fits = omega (arith, length-take c.args.self.now.count c.args.self.now.slots, c.loop-i.invariant.1);
+    }
 
 pub returns : goal.returns
 returns g c =

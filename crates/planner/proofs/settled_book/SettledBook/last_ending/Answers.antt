@@ -15,10 +15,10 @@ returns g c =
     let table = g.P.Pace.table pace in
     let counted : c.blocks-2.result ≡ all_blocks (standing_of k.book).batches = c.blocks-2.ensures.counts_all_blocks ∙ ap (λ (b : Book). all_blocks (standing_of b).batches) c.book.ensures.lends_the_book in
     let some : 0 < k.book.blocks = omega (arith, c.if-blocks-eq0.false, counted, blocks_viewed (machines_in k.book) (batches_in k.book), k.book.summed) in
-    let end = ending k table (g.met.P.Pace.no_block_ends_at_zero pace) (g.met.P.Pace.never_falls pace) c.latest-moment.result
-    c.latest-moment.ensures.no_machine_ends_later c.latest-moment.ensures.some_machine_ends_then some in
+    let end = ending k table (g.met.P.Pace.no_block_ends_at_zero pace) (g.met.P.Pace.never_falls pace) c.latest_moment.result
+    c.latest_moment.ensures.no_machine_ends_later c.latest_moment.ensures.some_machine_ends_then some in
     record {
       refuses_just_where_there_is_no_block = rw (ne_eqb (all_blocks (standing_of k.book).batches) 0 (λ e. c.if-blocks-eq0.false (counted ∙ e))) refl;
       gives_the_latest_moment_of_any_block = end;
-      no_rival_ends_earlier = λ best y sy u end-y. least_ending k.book table (share k) y best sy c.latest-moment.result u end end-y;
+      no_rival_ends_earlier = λ best y sy u end-y. least_ending k.book table (share k) y best sy c.latest_moment.result u end end-y;
     }

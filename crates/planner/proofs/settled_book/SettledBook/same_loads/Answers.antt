@@ -8,7 +8,7 @@ returns g c =
     let k = c.args.self.now.plan in
     let k' = c.args.other.now.plan in
     let pace = c.args.self.now.pace in
-    let told = c.loads-agree.ensures.tells_whether_numbers_and_loads_agree in
+    let told = c.loads_agree.ensures.tells_whether_numbers_and_loads_agree in
     record {
       tells_whether_numbers_and_loads_agree = told;
       equal_books_have_equal_loads = λ cx cy tables machines blocks.

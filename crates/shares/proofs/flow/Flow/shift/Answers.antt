@@ -11,6 +11,6 @@ returns c =
       moves_the_blocks = mv;
       carries_the_loads = c.carry.ensures.carries_the_loads;
       keeps_where_the_links_lead = λ m lv lu. relinked c.args.width c.args.batches.now mv c.requires.apart c.args.self.now.next c.args.self.now.long c.requires.inside.0 c.requires.inside.1
-          c.after-loss-less.result c.after-gain-more.result (nth c.row.result.now) (nth c.row-2.result.now) c.row.ensures.lends_the_blocks_of_the_machine c.row-2.ensures.lends_the_blocks_of_the_machine
-          m lv lu c.after-loss-less.ensures.holds_where_the_links_lead c.after-gain-more.ensures.holds_where_the_links_lead;
+          c.after_loss-less.result c.after_gain-more.result (nth c.row.result.now) (nth c.row-2.result.now) c.row.ensures.lends_the_blocks_of_the_machine c.row-2.ensures.lends_the_blocks_of_the_machine
+          m lv lu c.after_loss-less.ensures.holds_where_the_links_lead c.after_gain-more.ensures.holds_where_the_links_lead;
     }

@@ -8,25 +8,25 @@ use Rattle.shares.proofs.Picking.{popped_less, first_in, seen_more}
 use Rattle.shares.proofs.Sizes.{without_within}
 use Rattle.shares.proofs.plan.Plan.earliest_of.Goals as goal
 
-pub mark-after-mark-requires : goal.mark-after-mark-requires
-mark-after-mark-requires g c =
+pub mark_after-mark-requires : goal.mark_after-mark-requires
+mark_after-mark-requires g c =
     record { stands = c.requires.stand c.args.first (first_in (has c.args.others) c.args.first); few = c.requires.few }
 
-pub loop-j-smaller-then-is-before : goal.loop-j-smaller-then-is-before
-loop-j-smaller-then-is-before g c = let e = c.in-Some.ensures in popped_less _ _ _ e.gives_the_lowest_place e.takes_just_this_place
+pub loop-j-smaller-then-is_before : goal.loop-j-smaller-then-is_before
+loop-j-smaller-then-is_before g c = let e = c.in-Some.ensures in popped_less _ _ _ e.gives_the_lowest_place e.takes_just_this_place
 
 pub loop-j-smaller : goal.loop-j-smaller
 loop-j-smaller g c = let e = c.in-Some.ensures in popped_less _ _ _ e.gives_the_lowest_place e.takes_just_this_place
 
-pub loop-j-preserved-then-is-before : goal.loop-j-preserved-then-is-before
-loop-j-preserved-then-is-before g c =
+pub loop-j-preserved-then-is_before : goal.loop-j-preserved-then-is_before
+loop-j-preserved-then-is_before g c =
     let e = c.in-Some.ensures in
     let j = c.in-Some.j in
     let inv = c.loop-j.invariant in
     let one = or_left _ _ (inv.0 j e.gives_the_lowest_place.held) in
-    let is = c.mark-after-other.ensures.gives_the_mark in
-    let past = later_marks c.args.self.now.book c.loop-j.earliest j c.loop-j.mark c.mark-after-other.result (c.requires.stand c.loop-j.earliest inv.1) (c.requires.stand j one) (ap (λ (a : Mark). a.number) inv.2)
-    (ap (λ (a : Mark). a.number) is) (sym c.if-is-before.ensures.tells_whether_the_other_is_after) in (
+    let is = c.mark_after-other.ensures.gives_the_mark in
+    let past = later_marks c.args.self.now.book c.loop-j.earliest j c.loop-j.mark c.mark_after-other.result (c.requires.stand c.loop-j.earliest inv.1) (c.requires.stand j one) (ap (λ (a : Mark). a.number) inv.2)
+    (ap (λ (a : Mark). a.number) is) (sym c.if-is_before.ensures.tells_whether_the_other_is_after) in (
       (λ k t. inv.0 k (without_within _ _ j e.takes_just_this_place k t)),
       one,
       is,
@@ -39,9 +39,9 @@ loop-j-preserved g c =
     let j = c.in-Some.j in
     let inv = c.loop-j.invariant in
     let one = or_left _ _ (inv.0 j e.gives_the_lowest_place.held) in
-    let is = c.mark-after-other.ensures.gives_the_mark in
-    let past = not_later_marks c.args.self.now.book c.loop-j.earliest j c.loop-j.mark c.mark-after-other.result (c.requires.stand c.loop-j.earliest inv.1) (c.requires.stand j one) (ap (λ (a : Mark). a.number) inv.2)
-    (ap (λ (a : Mark). a.number) is) (sym c.if-is-before.ensures.tells_whether_the_other_is_after) in (
+    let is = c.mark_after-other.ensures.gives_the_mark in
+    let past = not_later_marks c.args.self.now.book c.loop-j.earliest j c.loop-j.mark c.mark_after-other.result (c.requires.stand c.loop-j.earliest inv.1) (c.requires.stand j one) (ap (λ (a : Mark). a.number) inv.2)
+    (ap (λ (a : Mark). a.number) is) (sym c.if-is_before.ensures.tells_whether_the_other_is_after) in (
       (λ k t. inv.0 k (without_within _ _ j e.takes_just_this_place k t)),
       inv.1,
       inv.2,

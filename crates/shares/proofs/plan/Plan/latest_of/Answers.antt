@@ -8,26 +8,26 @@ use Rattle.shares.proofs.Picking.{popped_less, first_in, seen_more}
 use Rattle.shares.proofs.Sizes.{without_within}
 use Rattle.shares.proofs.plan.Plan.latest_of.Goals as goal
 
-pub mark-back-mark-requires : goal.mark-back-mark-requires
-mark-back-mark-requires g c =
+pub mark_back-mark-requires : goal.mark_back-mark-requires
+mark_back-mark-requires g c =
     let it = c.requires.laden c.args.first (first_in (has c.args.others) c.args.first) in
     record { stands = it.0; there = (c.args.self.now.wide, it.1) }
 
-pub loop-i-smaller-then-is-before : goal.loop-i-smaller-then-is-before
-loop-i-smaller-then-is-before g c = let e = c.in-Some.ensures in popped_less _ _ _ e.gives_the_lowest_place e.takes_just_this_place
+pub loop-i-smaller-then-is_before : goal.loop-i-smaller-then-is_before
+loop-i-smaller-then-is_before g c = let e = c.in-Some.ensures in popped_less _ _ _ e.gives_the_lowest_place e.takes_just_this_place
 
 pub loop-i-smaller : goal.loop-i-smaller
 loop-i-smaller g c = let e = c.in-Some.ensures in popped_less _ _ _ e.gives_the_lowest_place e.takes_just_this_place
 
-pub loop-i-preserved-then-is-before : goal.loop-i-preserved-then-is-before
-loop-i-preserved-then-is-before g c =
+pub loop-i-preserved-then-is_before : goal.loop-i-preserved-then-is_before
+loop-i-preserved-then-is_before g c =
     let e = c.in-Some.ensures in
     let i = c.in-Some.i in
     let inv = c.loop-i.invariant in
     let one = or_left _ _ (inv.0 i e.gives_the_lowest_place.held) in
-    let is = c.mark-back-other.ensures.gives_the_mark in
-    let past = later_marks c.args.self.now.book i c.loop-i.latest c.mark-back-other.result c.loop-i.mark (c.requires.laden i one).0 (c.requires.laden c.loop-i.latest inv.1).0 (ap (λ (a : Mark). a.number) is)
-    (ap (λ (a : Mark). a.number) inv.2) (sym c.if-is-before.ensures.tells_whether_the_other_is_after) in (
+    let is = c.mark_back-other.ensures.gives_the_mark in
+    let past = later_marks c.args.self.now.book i c.loop-i.latest c.mark_back-other.result c.loop-i.mark (c.requires.laden i one).0 (c.requires.laden c.loop-i.latest inv.1).0 (ap (λ (a : Mark). a.number) is)
+    (ap (λ (a : Mark). a.number) inv.2) (sym c.if-is_before.ensures.tells_whether_the_other_is_after) in (
       (λ k t. inv.0 k (without_within _ _ i e.takes_just_this_place k t)),
       one,
       is,
@@ -40,9 +40,9 @@ loop-i-preserved g c =
     let i = c.in-Some.i in
     let inv = c.loop-i.invariant in
     let one = or_left _ _ (inv.0 i e.gives_the_lowest_place.held) in
-    let is = c.mark-back-other.ensures.gives_the_mark in
-    let past = not_later_marks c.args.self.now.book i c.loop-i.latest c.mark-back-other.result c.loop-i.mark (c.requires.laden i one).0 (c.requires.laden c.loop-i.latest inv.1).0 (ap (λ (a : Mark). a.number) is)
-    (ap (λ (a : Mark). a.number) inv.2) (sym c.if-is-before.ensures.tells_whether_the_other_is_after) in (
+    let is = c.mark_back-other.ensures.gives_the_mark in
+    let past = not_later_marks c.args.self.now.book i c.loop-i.latest c.mark_back-other.result c.loop-i.mark (c.requires.laden i one).0 (c.requires.laden c.loop-i.latest inv.1).0 (ap (λ (a : Mark). a.number) is)
+    (ap (λ (a : Mark). a.number) inv.2) (sym c.if-is_before.ensures.tells_whether_the_other_is_after) in (
       (λ k t. inv.0 k (without_within _ _ i e.takes_just_this_place k t)),
       inv.1,
       inv.2,

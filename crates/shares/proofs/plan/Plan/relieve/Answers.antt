@@ -14,60 +14,60 @@ use Rattle.shares.proofs.Sizes.{size_lt}
 use Rattle.shares.proofs.Exhausting.{exhausted_more, exhausted_moved, exhausted_same}
 use Rattle.shares.proofs.plan.Plan.relieve.Goals as goal
 
-pub earliest-of-j-requires : goal.earliest-of-j-requires
-earliest-of-j-requires g c =
-    let o = c.reach-past.ensures.reaches_past_the_exhausted in
+pub earliest_of-j-requires : goal.earliest_of-j-requires
+earliest_of-j-requires g c =
+    let o = c.reach_past.ensures.reaches_past_the_exhausted in
     record {
-      stand = λ q e. o.low q (o.parts q (one_of (has c.reach-past.result.1.places) c.args.i q o.has_start e)).0;
+      stand = λ q e. o.low q (o.parts q (one_of (has c.reach_past.result.1.places) c.args.i q o.has_start e)).0;
       few = omega (arith, c.requires.laden, load_few c.args.self.now c.args.i c.requires.stands);
     }
 
-pub is-helped-requires : goal.is-helped-requires
-is-helped-requires g c =
-    let o = c.reach-past.ensures.reaches_past_the_exhausted in
-    let j = c.earliest-of-j.result in
-    let in_rest = one_of (has c.reach-past.result.1.places) c.args.i j o.has_start c.earliest-of-j.ensures.finds_one_of_them in
+pub is_helped-requires : goal.is_helped-requires
+is_helped-requires g c =
+    let o = c.reach_past.ensures.reaches_past_the_exhausted in
+    let j = c.earliest_of-j.result in
+    let in_rest = one_of (has c.reach_past.result.1.places) c.args.i j o.has_start c.earliest_of-j.ensures.finds_one_of_them in
     record { stand = (c.requires.stands, o.low j (o.parts j in_rest).0); there = (c.args.self.now.wide, c.requires.laden) }
 
-pub returns-then-not-is-helped : goal.returns-then-not-is-helped
-returns-then-not-is-helped g c =
+pub returns-then-not-is_helped : goal.returns-then-not-is_helped
+returns-then-not-is_helped g c =
     let k = c.args.self.now in
     let ms = machines_in k.book in
     let table = g.P.Pace.table c.args.pace.now in
     let i = c.args.i in
-    let j = c.earliest-of-j.result in
-    let o = c.reach-past.ensures.reaches_past_the_exhausted in
-    let in_rest = one_of (has c.reach-past.result.1.places) i j o.has_start c.earliest-of-j.ensures.finds_one_of_them in
+    let j = c.earliest_of-j.result in
+    let o = c.reach_past.ensures.reaches_past_the_exhausted in
+    let in_rest = one_of (has c.reach_past.result.1.places) i j o.has_start c.earliest_of-j.ensures.finds_one_of_them in
     let past = not_later_marks k.book i j (mark_of table (machine_at ms i) (load_at k i - k.width + 1)) (mark_of table (machine_at ms j) (load_at k j + k.width))
-    c.requires.stands (o.low j (o.parts j in_rest).0) refl refl (sym c.if-not-is-helped.ensures.tells_whether_it_helps) in
+    c.requires.stands (o.low j (o.parts j in_rest).0) refl refl (sym c.if-not-is_helped.ensures.tells_whether_it_helps) in
     record {
       keeps_the_book = refl;
       keeps_the_width = refl;
       lowers_the_total_of_marks_or_changes_nothing = refl;
-      exhausts_more_or_keeps_them_exhausted = exhausted_more (has c.reach-past.result.0) i c.requires.spent o.low o.closed o.has_exhausted
-          (λ q lq e f. omega (arith, past, c.earliest-of-j.ensures.finds_the_earliest q (or_left _ _ (o.rest q e f)))) c.requires.latest;
-      exhausts_one_more_at_least = size_lt (has c.args.exhausted) (has c.reach-past.result.0) o.has_exhausted i
+      exhausts_more_or_keeps_them_exhausted = exhausted_more (has c.reach_past.result.0) i c.requires.spent o.low o.closed o.has_exhausted
+          (λ q lq e f. omega (arith, past, c.earliest_of-j.ensures.finds_the_earliest q (or_left _ _ (o.rest q e f)))) c.requires.latest;
+      exhausts_one_more_at_least = size_lt (has c.args.exhausted) (has c.reach_past.result.0) o.has_exhausted i
           (omega (arith, c.requires.stands, few_machines k.book)) c.requires.not_exhausted (o.parts i o.has_start).0;
     }
 
 pub most-want-requires : goal.most-want-requires
 most-want-requires g c =
-    let o = c.reach-past.ensures.reaches_past_the_exhausted in
-    let j = c.earliest-of-j.result in
-    let in_rest = one_of (has c.reach-past.result.1.places) c.args.i j o.has_start c.earliest-of-j.ensures.finds_one_of_them in
+    let o = c.reach_past.ensures.reaches_past_the_exhausted in
+    let j = c.earliest_of-j.result in
+    let in_rest = one_of (has c.reach_past.result.1.places) c.args.i j o.has_start c.earliest_of-j.ensures.finds_one_of_them in
     record {
       stand = (c.requires.stands, o.low j (o.parts j in_rest).0);
       there = c.requires.laden;
-      a_chain_helps = sym c.if-not-is-helped.ensures.tells_whether_it_helps;
+      a_chain_helps = sym c.if-not-is_helped.ensures.tells_whether_it_helps;
     }
 
 pub augment-requires : goal.augment-requires
 augment-requires g c =
-    let o = c.reach-past.ensures.reaches_past_the_exhausted in
+    let o = c.reach_past.ensures.reaches_past_the_exhausted in
     record {
       chained = o.chained;
       within_machines = λ q e. o.low q (o.parts q e).0;
-      reached = one_of (has c.reach-past.result.1.places) c.args.i c.earliest-of-j.result o.has_start c.earliest-of-j.ensures.finds_one_of_them;
+      reached = one_of (has c.reach_past.result.1.places) c.args.i c.earliest_of-j.result o.has_start c.earliest_of-j.ensures.finds_one_of_them;
     }
 
 pub returns : goal.returns
@@ -79,11 +79,11 @@ returns g c =
     let p = values_in table k in
     let l = load_at k in
     let i = c.args.i in
-    let j = c.earliest-of-j.result in
+    let j = c.earliest_of-j.result in
     let want = c.most-want.result in
     let got = c.augment.result in
-    let o = c.reach-past.ensures.reaches_past_the_exhausted in
-    let in_rest = one_of (has c.reach-past.result.1.places) i j o.has_start c.earliest-of-j.ensures.finds_one_of_them in
+    let o = c.reach_past.ensures.reaches_past_the_exhausted in
+    let in_rest = one_of (has c.reach_past.result.1.places) i j o.has_start c.earliest_of-j.ensures.finds_one_of_them in
     let lj = o.low j (o.parts j in_rest).0 in
     let w = c.most-want.ensures in
     let e = c.augment.ensures in

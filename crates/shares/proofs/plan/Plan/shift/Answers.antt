@@ -25,17 +25,15 @@ shift-requires c =
       );
     }
 
-pub invariant-of-self : goal.invariant-of-self
-invariant-of-self c =
+pub invariant_of-self : goal.invariant_of-self
+invariant_of-self c =
     let p = c.args.self.now in
     let e = c.shift.ensures in
-    let mv = e.moves_the_blocks in (
-      held_after (λ b i. has (holders_at (batches_in p.book) b) i) mv c.requires.held p.elsewhere,
-      (
-        (λ b l. moved_row _ c.args.batch c.args.from c.args.to c.args.blocks _ _ c.requires.from_stands c.requires.to_stands mv b ∙ p.adds_up b l),
-        (
-          (λ q. omega (arith, p.summed q, e.carries_the_loads.loads q, moved_load _ c.args.batch c.args.from c.args.to c.args.blocks _ _ c.requires.batch_stands mv q)),
-          (p.wide, ((rw c.batches-batches.ensures.lends_the_batches at e.keeps_where_the_links_lead) _ c.requires.from_stands c.requires.to_stands p.linked, tt)),
-        ),
-      ),
-    )
+    let mv = e.moves_the_blocks in
+    record {
+      elsewhere = held_after (λ b i. has (holders_at (batches_in p.book) b) i) mv c.requires.held p.elsewhere;
+      adds_up = λ b l. moved_row _ c.args.batch c.args.from c.args.to c.args.blocks _ _ c.requires.from_stands c.requires.to_stands mv b ∙ p.adds_up b l;
+      summed = λ q. omega (arith, p.summed q, e.carries_the_loads.loads q, moved_load _ c.args.batch c.args.from c.args.to c.args.blocks _ _ c.requires.batch_stands mv q);
+      wide = p.wide;
+      linked = (rw c.batches-batches.ensures.lends_the_batches at e.keeps_where_the_links_lead) _ c.requires.from_stands c.requires.to_stands p.linked;
+    }

@@ -11,7 +11,7 @@ loop-j-init c = (omega arith, omega arith, refl, (λ k e. e), noted_none (has c.
 pub loop-j-smaller : goal.loop-j-smaller
 loop-j-smaller c =
     let e = c.in-Some.ensures in
-    size_without (has c.pop-first.new.self) (has c.loop-j.left) c.in-Some.j e.gives_the_lowest_place.below e.gives_the_lowest_place.held e.takes_just_this_place
+    size_without (has c.pop_first.new.self) (has c.loop-j.left) c.in-Some.j e.gives_the_lowest_place.below e.gives_the_lowest_place.held e.takes_just_this_place
 
 pub loop-j-preserved : goal.loop-j-preserved
 loop-j-preserved c =
@@ -22,6 +22,6 @@ loop-j-preserved c =
       length-set c.loop-j.self.before j _ ∙ inv.0,
       length-set c.loop-j.self.stages j _ ∙ inv.1,
       inv.2,
-      (λ k t. inv.3 k (without_within (has c.pop-first.new.self) (has c.loop-j.left) j e.takes_just_this_place k t)),
-      noted_more (has c.args.new) (has c.loop-j.left) (has c.pop-first.new.self) _ _ j c.loop-j.self.before c.loop-j.self.stages (omega (arith, inv.0, low.below)) (omega (arith, inv.1, low.below)) e.takes_just_this_place (inv.3 j low.held) inv.4,
+      (λ k t. inv.3 k (without_within (has c.pop_first.new.self) (has c.loop-j.left) j e.takes_just_this_place k t)),
+      noted_more (has c.args.new) (has c.loop-j.left) (has c.pop_first.new.self) _ _ j c.loop-j.self.before c.loop-j.self.stages (omega (arith, inv.0, low.below)) (omega (arith, inv.1, low.below)) e.takes_just_this_place (inv.3 j low.held) inv.4,
     )

@@ -25,7 +25,7 @@ loop-i-smaller c =
     let turn = turned c.in-Some.i inv.0 inv.1 e.gives_the_lowest_place.held e.takes_just_this_place
     c.minus-new.ensures.holds_the_places_that_the_other_does_not c.note.ensures.adds_the_places c.union.ensures.holds_the_places_of_either
     (λ k. has_low c.minus-new.result k (omega arith)) c.note.ensures.notes_just_these in
-    omega (arith, turn.less, left_same (has c.note.new.self.places) _ _ c.next-layer.ensures.keeps_all_places)
+    omega (arith, turn.less, left_same (has c.note.new.self.places) _ _ c.next_layer.ensures.keeps_all_places)
 
 pub loop-i-preserved : goal.loop-i-preserved
 loop-i-preserved c =
@@ -34,5 +34,5 @@ loop-i-preserved c =
     let turn = turned c.in-Some.i inv.0 inv.1 e.gives_the_lowest_place.held e.takes_just_this_place
     c.minus-new.ensures.holds_the_places_that_the_other_does_not c.note.ensures.adds_the_places c.union.ensures.holds_the_places_of_either
     (λ k. has_low c.minus-new.result k (omega arith)) c.note.ensures.notes_just_these in
-    let n = c.next-layer.ensures in
+    let n = c.next_layer.ensures in
     (searching_same _ n.keeps_all_places turn.searching, n.keeps_both_apart turn.apart, n.has_a_layer_while_there_are_places)
