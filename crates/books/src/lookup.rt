@@ -14,7 +14,7 @@ pub(crate) trait Numbered {
 // records have to be in ascending number; of others nothing is said.
 pub(crate) fn find<R: Numbered>(records: &[R], number: u32) -> Result<usize, usize>
     ensures stays_within_the_records { MatchResult result (λ i. i < length records.now) (λ i. i ≤ length records.now) }
-    ensures finds_the_place { ascending (map key records.now) ≡ true → MatchResult result (Found number (map key records.now)) (Missing number (map key records.now)) }
+    ensures finds_the_place { ascending (map R.key records.now) ≡ true → MatchResult result (Found number (map R.key records.now)) (Missing number (map R.key records.now)) }
 {
     let mut low = 0;
     let mut high = records.len();

@@ -1,4 +1,5 @@
 -- The digits of words: of 0, of a power of two, of a union and a difference; that its digits determine a word; and which is the lowest.
+use Rattle.std.specs.Prelude.{Decides}
 use Rattle.std.proofs.Common.{◌≡◌, ℕ, zero, suc, ◌+◌, ◌-◌, ◌/◌, ◌%◌, ◌^◌, ◌<◌, ◌≤◌, true, false, not, ◌&&◌, ◌||◌, eqb, sym, refl, ap, ◌∙◌, subst, ⊎_elim, mod-lt, add_comm, pow-suc, div-one, add-one, arith, pow_mono}
 use native.Mathlib.Nat.{zero-div, div-eq_of_lt, div_self}
 use lib.Bits.{bit_and, bit_or, bit_xor}
@@ -8,7 +9,7 @@ use Rattle.std.proofs.lemmas.Bool.{eq-eqb, ne_eqb, eqb-true, eqb-false, cases_or
 use Rattle.theory.specs.Sums.{total, only}
 use Rattle.theory.proofs.Sums.{total_none, total_first, total_eq}
 use Rattle.places.specs.declared.Places.{Places}
-use Rattle.places.specs.Has.{digit, has, no_places}
+use Rattle.places.specs.Has.{digit, has, no_places, same_places}
 
 pub digit_none : (k : ℕ) → digit 0 k ≡ false
 unfolding digit
@@ -75,6 +76,11 @@ same_within (suc n) a b p q same =
 
 pub same_word : (a b : ℕ) → ((k : ℕ) → digit a k ≡ digit b k) → a ≡ b
 same_word a b same = same_within (a + b) a b (omega arith) (omega arith) same
+
+-- what `==` and `!=` compare tells whether two sets hold the same places
+pub same_places_decides : (a b : Places) → Decides (same_places a b) ((k : ℕ) → has a k ≡ has b k)
+unfolding has
+same_places_decides a b = ((λ same k. ap (λ (w : ℕ). digit w k) (eqb-true a.word b.word same)), (λ same. eq-eqb a.word b.word (same_word a.word b.word same)))
 
 -- a word of 32 digits has none from 32 on
 pub digit_past : (w k : ℕ) → w < 2 ^ 32 → 32 ≤ k → digit w k ≡ false

@@ -4,9 +4,8 @@
 // which places a set holds, and nothing else.
 #![tactic(auto)]
 
-ghost use Rattle.std.specs.Prelude.{◌≡◌, ℕ, false, not, ◌&&◌, ◌||◌, Decides, MatchOption, ◌==◌, nat_eq, nat_lt};
-ghost use Rattle.std.specs.Ordering.{on};
-ghost use Rattle.places.specs.Has.{has, size, Lowest};
+ghost use Rattle.std.specs.Prelude.{◌≡◌, ℕ, false, not, ◌&&◌, ◌||◌, Decides, MatchOption, ◌==◌, nat_lt};
+ghost use Rattle.places.specs.Has.{has, same_places, size, Lowest};
 ghost use Rattle.std.specs.Cmp.Rules.{comparing};
 ghost use Rattle.std.proofs.Common.{rules};
 
@@ -97,13 +96,13 @@ impl Places {
 }
 
 impl PartialEq for Places {
-    ghost eq = { on (λ v. v.word) nat_eq };
+    ghost eq = { same_places };
 
     ghost laws = { Prim.search (comparing, rules) };
 
     // Whether both hold the same places.
     fn eq(&self, other: &Places) -> bool
-        ensures compares_the_words { result ≡ on (λ v. v.word) nat_eq self.now other.now }
+        ensures answers_as_the_comparison_says { result ≡ same_places self.now other.now }
         ensures tells_whether_both_hold_the_same_places { Decides result ((k : ℕ) → has self.now k ≡ has other.now k) }
     {
         self.word == other.word
