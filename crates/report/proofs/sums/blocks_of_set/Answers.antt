@@ -23,11 +23,11 @@ loop-batch-preserved c =
       | then-eq w ↦
           rw w.blocks-is
           (counting_more (has c.args.holders) c.args.batches.now c.loop-batch.batch-index c.loop-batch.blocks no_batch
-          c.loop-batch-test.true c.loop-batch.invariant (c.eq.ensures.0 w.if-eq.true))
+          c.loop-batch-test.true c.loop-batch.invariant (c.eq.ensures.tells_whether_both_hold_the_same_places.0 w.if-eq.true))
       | else-eq w ↦
           rw w.blocks-is
           (counting_past (has c.args.holders) c.args.batches.now c.loop-batch.batch-index c.loop-batch.blocks no_batch
-          c.loop-batch-test.true c.loop-batch.invariant (λ just. both_ways _ w.if-eq.false (c.eq.ensures.1 just)))
+          c.loop-batch-test.true c.loop-batch.invariant (λ just. both_ways _ w.if-eq.false (c.eq.ensures.tells_whether_both_hold_the_same_places.1 just)))
     ]
 
 pub returns : goal.returns
