@@ -1,4 +1,4 @@
--- The calls, with what they are handed, and what an accepted one makes of what stands.
+-- The calls that change what stands, with what they are handed, and what an accepted one makes of what stands.
 use Rattle.std.specs.Prelude.{ℕ, List}
 use Rattle.books.specs.declared.machine.Machine.{Machine}
 use Rattle.books.specs.Standing.{Standing, with_machine, more_blocks, fewer_blocks}
@@ -10,13 +10,6 @@ pub data Call : Type 0 where
   Hold : ℕ → ℕ → List ℕ → Call
   -- a batch's number and how many blocks fewer
   Drop : ℕ → ℕ → Call
-  Settle : Call
-  Reopen : Call
-  -- a machine's number
-  Load : ℕ → Call
-  -- a batch's number and a machine's
-  Share : ℕ → ℕ → Call
-  LastEnding : Call
 
 -- a machine by its number, ticks, lot and backlog
 abbrev pub machine_with : ℕ → ℕ → ℕ → ℕ → Machine
@@ -27,8 +20,3 @@ after (Enlist m) s = record { machines = with_machine m s.machines; batches = s.
 after Open s = s
 after (Hold b n hs) s = record { machines = s.machines; batches = more_blocks b n hs s.batches }
 after (Drop b n) s = record { machines = s.machines; batches = fewer_blocks b n s.batches }
-after Settle s = s
-after Reopen s = s
-after (Load _) s = s
-after (Share _ _) s = s
-after LastEnding s = s

@@ -3,6 +3,7 @@ pub mod Ranges
 pub mod Standing
 pub mod Calls
 pub mod Refusals
+pub mod Questions
 pub mod Holders
 pub mod Views
 pub mod Edits

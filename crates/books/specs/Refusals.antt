@@ -3,36 +3,26 @@
 --   checks c             the refusals of the call c, in the order in which they are checked
 --   first_refusal c s    the first check of the call c that applies at what stands, if one does
 --   refusal_in r         the refusal that a call answered, if it did
-use Rattle.std.specs.Prelude.{ℕ, ◌+◌, Bool, true, false, cond, not, ◌&&◌, leb, List, [], ◌∷◌, length, Some, None, Ok, Err, Option, Result, ◌==◌, nat_eq, nat_le, nat_lt}
+use Rattle.std.specs.Prelude.{ℕ, ◌+◌, Bool, true, false, cond, not, ◌&&◌, leb, List, [], ◌∷◌, length, Some, None, Ok, Err, Option, Result, ◌==◌, nat_le, nat_lt}
 use Rattle.books.specs.declared.machine.Machine.{Machine}
 use Rattle.books.specs.declared.refusal.Refusal.{Refusal}
 use Rattle.books.specs.declared.refusal.Refusal.TheVariants.{MachineNumber, Ticks, Lot, Backlog, BatchNumber, Blocks, HolderCount, HolderOrder, MachineStands, MachinesFull, MachineUnknown, BatchesFull, OtherHolders, BatchPasses, BookPasses, BatchUnknown, BatchFewer, NoBlock}
 use Rattle.books.specs.Numbers.{all, among, ascending, outside, bad_machine_number, bad_ticks, bad_lot, bad_backlog, bad_batch_number, bad_blocks}
 use Rattle.books.specs.Standing.{Standing, machine_numbers, batch_numbers, blocks_of, holders_of, all_blocks}
-use Rattle.books.specs.Calls.{Call, Enlist, Open, Hold, Drop, Settle, Reopen, Load, Share, LastEnding, machine_with}
+use Rattle.books.specs.Calls.{Call, Enlist, Open, Hold, Drop, machine_with}
 
 -- what a call is handed; 0 or none where it has no such argument
--- (of a call that reads, the holders are the machines of the book that it names by number)
 pub record Handed : Type 0 where
   pub machine : Machine
   pub batch : ℕ
   pub blocks : ℕ
   pub holders : List ℕ
 
--- a call that is handed no machine to enlist
-abbrev pub handed_for : ℕ → ℕ → List ℕ → Handed
-handed_for b n hs = record { machine = machine_with 0 0 0 0; batch = b; blocks = n; holders = hs }
-
 abbrev pub handed : Call → Handed
 handed (Enlist m) = record { machine = m; batch = 0; blocks = 0; holders = [] }
 handed Open = record { machine = machine_with 0 0 0 0; batch = 0; blocks = 0; holders = [] }
 handed (Hold b n hs) = record { machine = machine_with 0 0 0 0; batch = b; blocks = n; holders = hs }
 handed (Drop b n) = record { machine = machine_with 0 0 0 0; batch = b; blocks = n; holders = [] }
-handed Settle = handed_for 0 0 []
-handed Reopen = handed_for 0 0 []
-handed (Load n) = handed_for 0 0 (n ∷ [])
-handed (Share b n) = handed_for b 0 (n ∷ [])
-handed LastEnding = handed_for 0 0 []
 
 -- all the numbers are those of machines that stand
 abbrev pub all_among : List ℕ → List ℕ → Bool
@@ -70,18 +60,13 @@ case_of BatchPasses = tells 46 (λ h s. nat_lt 99999 (blocks_of h.batch s.batche
 case_of BookPasses = tells 47 (λ h s. nat_lt 1000000 (all_blocks s.batches + h.blocks))
 case_of BatchUnknown = tells 48 (λ h s. not (among h.batch (batch_numbers s.batches)))
 case_of BatchFewer = tells 49 (λ h s. nat_lt (blocks_of h.batch s.batches) h.blocks)
-case_of NoBlock = tells 50 (λ h s. nat_eq (all_blocks s.batches) 0)
+case_of NoBlock = tells 50 (λ h s. all_blocks s.batches == 0)
 
 abbrev pub checks : Call → List Refusal
 checks (Enlist _) = MachineNumber ∷ Ticks ∷ Lot ∷ Backlog ∷ MachineStands ∷ MachinesFull ∷ []
 checks Open = []
 checks (Hold _ _ _) = BatchNumber ∷ Blocks ∷ HolderCount ∷ HolderOrder ∷ MachineUnknown ∷ OtherHolders ∷ BatchesFull ∷ BatchPasses ∷ BookPasses ∷ []
 checks (Drop _ _) = BatchNumber ∷ Blocks ∷ BatchUnknown ∷ BatchFewer ∷ []
-checks Settle = []
-checks Reopen = []
-checks (Load _) = MachineUnknown ∷ []
-checks (Share _ _) = BatchUnknown ∷ MachineUnknown ∷ []
-checks LastEnding = NoBlock ∷ []
 
 abbrev pub first_of : List Refusal → Handed → Standing → Option Refusal
 first_of [] h s = None

@@ -1,6 +1,6 @@
 // An open book: blocks of batches are held and dropped.
 ghost use Rattle.std.specs.Prelude.{◌≡◌, ◌≤◌, true, false, map, length, is_ok};
-ghost use Rattle.books.specs.Calls.{Hold, Drop, Settle, after};
+ghost use Rattle.books.specs.Calls.{Hold, Drop, after};
 ghost use Rattle.books.specs.Numbers.{all, ascending};
 ghost use Rattle.books.specs.Ranges.{machine_in_range, batch_in_range, Manned, numbers_of, blocks_in};
 ghost use Rattle.books.specs.Refusals.{first_refusal, refusal_in};
@@ -67,7 +67,7 @@ impl<P> OpenBook<P> {
 impl<P: Pace> OpenBook<P> {
     // Shares the blocks out, as well as can be. Which of the best share-outs it is stays open.
     pub fn settle(self) -> SettledBook<P>
-        ensures keeps_what_stands { in_settled result ≡ after Settle (in_book self) }
+        ensures keeps_what_stands { in_settled result ≡ in_book self }
         ensures keeps_the_pace { result.pace ≡ self.pace }
         ensures gives_all_blocks_to_holders { Shared (in_book self) (shares_in result) }
         ensures no_rival_has_fewer_blocks_after_any_mark { Best (P.Pace.table self.pace) (in_book self) (shares_in result) }

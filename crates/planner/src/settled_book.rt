@@ -1,9 +1,9 @@
 // A settled book: loads, shares and endings are read.
 ghost use Rattle.std.specs.Prelude.{◌≡◌, ℕ, ◌<◌, ◌≤◌, Bool, true, map, length, IfOk, Decides};
-ghost use Rattle.books.specs.Calls.{Load, Share, LastEnding as AskLastEnding, Reopen, after};
 ghost use Rattle.books.specs.Numbers.{all, ascending};
+ghost use Rattle.books.specs.Questions.{Load, Share, Ending, first_told};
 ghost use Rattle.books.specs.Ranges.{machine_in_range, batch_in_range, Manned, numbers_of, blocks_in};
-ghost use Rattle.books.specs.Refusals.{first_refusal, refusal_in};
+ghost use Rattle.books.specs.Refusals.{refusal_in};
 ghost use Rattle.books.specs.Standing.{machine_numbers};
 ghost use Rattle.books.specs.Views.{batch_of};
 ghost use Rattle.shares.specs.Marks.{machine_at};
@@ -48,7 +48,7 @@ impl<P> SettledBook<P> {
 
     // The load of the machine: the sum of its shares.
     pub fn load(&self, machine: u16) -> Result<u32, Refusal>
-        ensures refuses_just_where_the_machine_is_unknown { refusal_in result ≡ first_refusal (Load machine) (in_settled self.now) }
+        ensures refuses_just_where_the_machine_is_unknown { refusal_in result ≡ first_told (Load machine) (in_settled self.now) }
         ensures gives_the_sum_of_its_shares { IfOk result (λ v. (i : ℕ) → i < machine_count (in_settled self.now) → (machine_at (in_settled self.now).machines i).number ≡ machine → v ≡ load_of (in_settled self.now) (shares_in self.now) i) }
     {
         let place = self.plan.book().place_of_machine(machine)?;
@@ -57,7 +57,7 @@ impl<P> SettledBook<P> {
 
     // The blocks of the batch that the machine is to send; 0 for a machine that is no holder.
     pub fn share(&self, batch: u32, machine: u16) -> Result<u32, Refusal>
-        ensures refuses_by_the_first_check_that_applies { refusal_in result ≡ first_refusal (Share batch machine) (in_settled self.now) }
+        ensures refuses_by_the_first_check_that_applies { refusal_in result ≡ first_told (Share batch machine) (in_settled self.now) }
         ensures gives_the_share { IfOk result (λ v. (b i : ℕ) → b < length (in_settled self.now).batches → (held_at (in_settled self.now) b).number ≡ batch → i < machine_count (in_settled self.now) → (machine_at (in_settled self.now).machines i).number ≡ machine → v ≡ shares_in self.now b i) }
         ensures reads_a_share_out_of_what_stands { Shared (in_settled self.now) (shares_in self.now) }
     {
@@ -69,7 +69,7 @@ impl<P> SettledBook<P> {
 
     // The open book of the same machines and batches.
     pub fn reopen(self) -> OpenBook<P>
-        ensures keeps_what_stands { in_book result ≡ after Reopen (in_settled self) }
+        ensures keeps_what_stands { in_book result ≡ in_settled self }
         ensures keeps_the_pace { result.pace ≡ self.pace }
     {
         let SettledBook { pace, plan } = self;
@@ -83,7 +83,7 @@ impl<P> SettledBook<P> {
 impl<P: Pace> SettledBook<P> {
     // The latest moment of any block.
     pub fn last_ending(&self) -> Result<u64, Refusal>
-        ensures refuses_just_where_there_is_no_block { refusal_in result ≡ first_refusal AskLastEnding (in_settled self.now) }
+        ensures refuses_just_where_there_is_no_block { refusal_in result ≡ first_told Ending (in_settled self.now) }
         ensures gives_the_latest_moment_of_any_block { IfOk result (LastEnding (P.Pace.table self.now.pace) (in_settled self.now) (shares_in self.now)) }
         ensures no_rival_ends_earlier { IfOk result (λ t. Best (P.Pace.table self.now.pace) (in_settled self.now) (shares_in self.now) → (y : ShareOut) → Shared (in_settled self.now) y → (u : ℕ) → LastEnding (P.Pace.table self.now.pace) (in_settled self.now) y u → t ≤ u) }
     {

@@ -1,8 +1,9 @@
 // The plain calls behind those of open and settled books.
 ghost use Rattle.std.specs.Prelude.{◌≡◌, ℕ, ◌+◌, ◌-◌, ◌≤◌, true, false, not, List, [], ◌∷◌, map, length, is_ok, IfOk, if◌then◌else◌, Some, None, MatchResult, slice_index_or};
-ghost use Rattle.books.specs.Calls.{Hold, Drop, Load, after};
+ghost use Rattle.books.specs.Calls.{Hold, Drop, after};
 ghost use Rattle.books.specs.Edits.{edited, CanBeMade, Sound, Asked};
 ghost use Rattle.books.specs.Numbers.{among, Found, Missing};
+ghost use Rattle.books.specs.Questions.{Load, first_told};
 ghost use Rattle.books.specs.Ranges.{numbers_of};
 ghost use Rattle.books.specs.Refusals.{handed, first_of, first_refusal, refusal_in};
 ghost use Rattle.books.specs.Standing.{machine_numbers, batch_numbers, all_blocks, more_blocks, fewer_blocks};
@@ -72,7 +73,7 @@ impl Book {
 
     // The place of the machine with the number.
     pub fn place_of_machine(&self, number: u16) -> Result<usize, Refusal>
-        ensures refuses_just_where_it_is_unknown { refusal_in result ≡ first_refusal (Load number) (standing_of self.now) }
+        ensures refuses_just_where_it_is_unknown { refusal_in result ≡ first_told (Load number) (standing_of self.now) }
         ensures finds_the_place { IfOk result (Found number (machine_numbers (machines_in self.now))) }
     {
         match self.roster.find(number) {

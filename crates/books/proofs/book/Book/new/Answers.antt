@@ -1,16 +1,12 @@
-use Rattle.std.proofs.Common.{length, sym, refl, subst, arith}
-use Rattle.fixed.specs.Items.{items}
+use Rattle.std.proofs.Common.{◌≡◌, ℕ, List, [], sym, subst, rules}
+use Rattle.books.specs.declared.batch.Batch.{Batch}
 use Rattle.books.specs.Ranges.{Manned}
 use Rattle.books.proofs.Tables.{manned_none}
 use Rattle.books.proofs.book.Book.new.Goals as goal
 
-pub invariant_of-result : goal.invariant_of-result
-invariant_of-result c =
-    let none = c.new.ensures.holds_no_item in
-    record {
-      ascends = rw none refl;
-      in_range = rw none refl;
-      manned = subst (Manned (length (items c.args.roster.machines))) (sym none) (manned_none (length (items c.args.roster.machines)));
-      summed = rw none refl;
-      limited = omega arith;
-    }
+-- batches of which there are none
+none_manned : (n : ℕ) (bs : List Batch) → bs ≡ [] → Manned n bs
+none_manned n bs none = subst (Manned n) (sym none) (manned_none n)
+
+pub invariant_of-result-clause-manned : goal.invariant_of-result-clause-manned
+invariant_of-result-clause-manned c = search (rules, none_manned)
