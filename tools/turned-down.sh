@@ -12,14 +12,14 @@ for page in "$top"/crates/*/must-fail/*.md; do
     part() { sed -n "s/^    $1: //p" "$page"; }
     rm -rf "$copy/work"
     mkdir "$copy/work"
-    cp -r "$top/crates" "$top/crates.txt" "$copy/work"
-    [ ! -d "$top/target" ] || cp -r "$top/target" "$copy/work" # what is proved already
+    # without what was made, which a check finds by itself in the other copies on this machine
+    tar -C "$top" --exclude=out -cf - crates crates.txt | tar -C "$copy/work" -xf -
     OLD=$(part old) NEW=$(part new) awk '{
         at = index($0, ENVIRON["OLD"])
         if (at) { $0 = substr($0, 1, at - 1) ENVIRON["NEW"] substr($0, at + length(ENVIRON["OLD"])); n++ }
         print
     } END { exit n != 1 }' "$top/crates/$crate/$(part file)" >"$copy/work/crates/$crate/$(part file)"
-    if (cd "$copy/work" && rt mir "$crate") >"$copy/log" 2>&1; then
+    if (cd "$copy/work/crates/$crate" && rt check) >"$copy/log" 2>&1; then
         echo "NOT TURNED DOWN: $page"
         exit 1
     fi

@@ -3,7 +3,7 @@
 --   checks c             the refusals of the call c, in the order in which they are checked
 --   first_refusal c s    the first check of the call c that applies at what stands, if one does
 --   refusal_in r         the refusal that a call answered, if it did
-use Rattle.std.specs.Prelude.{ℕ, ◌+◌, Bool, true, false, cond, not, ◌&&◌, leb, List, [], ◌∷◌, length, Some, None, Ok, Err, Option, Result, ◌==◌, nat_le, nat_lt}
+use Rattle.std.specs.Prelude.{ℕ, ◌+◌, Bool, true, false, cond, not, ◌&&◌, List, [], ◌∷◌, length, Some, None, Ok, Err, Option, Result, ◌==◌, nat_le, nat_lt}
 use Rattle.books.specs.declared.machine.Machine.{Machine}
 use Rattle.books.specs.declared.refusal.Refusal.{Refusal}
 use Rattle.books.specs.declared.refusal.Refusal.TheVariants.{MachineNumber, Ticks, Lot, Backlog, BatchNumber, Blocks, HolderCount, HolderOrder, MachineStands, MachinesFull, MachineUnknown, BatchesFull, OtherHolders, BatchPasses, BookPasses, BatchUnknown, BatchFewer, NoBlock}
@@ -52,7 +52,7 @@ case_of Blocks = tells 16 (λ h s. bad_blocks h.blocks)
 case_of HolderCount = tells 17 (λ h s. outside 1 32 (length h.holders))
 case_of HolderOrder = tells 18 (λ h s. not (ascending h.holders))
 case_of MachineStands = tells 41 (λ h s. among h.machine.number (machine_numbers s.machines))
-case_of MachinesFull = tells 42 (λ h s. leb 32 (length s.machines))
+case_of MachinesFull = tells 42 (λ h s. nat_le 32 (length s.machines))
 case_of MachineUnknown = tells 43 (λ h s. not (all_among h.holders (machine_numbers s.machines)))
 case_of BatchesFull = tells 44 (λ h s. nat_le 128 (length s.batches) && not (among h.batch (batch_numbers s.batches)))
 case_of OtherHolders = tells 45 (λ h s. among h.batch (batch_numbers s.batches) && not (same h.holders (holders_of h.batch s.batches)))

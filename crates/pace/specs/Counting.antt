@@ -1,5 +1,5 @@
 -- How often a test is passed that is passed just up to some count.
-use Rattle.std.specs.Prelude.{◌≡◌, ℕ, zero, suc, ◌<◌, ◌≤◌, min, Bool, cond, leb, nat_le, refl}
+use Rattle.std.specs.Prelude.{◌≡◌, ℕ, zero, suc, ◌<◌, ◌≤◌, min, Bool, cond, nat_le, refl}
 use Rattle.std.proofs.Common.{ap, sym, ◌∙◌, ⊎_elim, arith}
 use Rattle.std.proofs.lemmas.Bool.{cases_lt, le-leb, lt-leb}
 use Rattle.pace.specs.Moments.{count, capacity_of}
@@ -12,7 +12,7 @@ unfolding count counted
 count_upto zero c p h = omega arith
 count_upto (suc n) c p h =
     let ih : count n p ≡ min n c = count_upto n c p (λ k a b. h k a (omega arith)) in
-    let here : p (suc n) ≡ leb (suc n) c = h (suc n) (omega arith) (omega arith) in
+    let here : p (suc n) ≡ nat_le (suc n) c = h (suc n) (omega arith) (omega arith) in
     ⊎_elim
     (λ (in-time : n < c). omega (arith, ap counted (here ∙ le-leb (suc n) c in-time)))
     (λ (late : c ≤ n). omega (arith, ap counted (here ∙ lt-leb (suc n) c (omega arith))))
@@ -24,7 +24,7 @@ pub capacity_upto : (f : ℕ → ℕ) (t c : ℕ)
     → ((k : ℕ) → 0 < k → k ≤ 1000000 → k ≤ c → f k ≤ t)
     → capacity_of f t ≡ min 1000000 c
 unfolding capacity_of
-capacity_upto f t c within reached = count_upto 1000000 c (λ k. leb (f k) t) same
+capacity_upto f t c within reached = count_upto 1000000 c (λ k. nat_le (f k) t) same
   where
     same : (k : ℕ) → 0 < k → k ≤ 1000000 → nat_le (f k) t ≡ nat_le k c
     same k a b =
@@ -47,7 +47,7 @@ pub capacity_same : (f g : ℕ → ℕ) (t u : ℕ)
     → capacity_of f t ≡ capacity_of g u
 unfolding capacity_of
 capacity_same f g t u onward back =
-    count_same 1000000 (λ k. leb (f k) t) (λ k. leb (g k) u)
+    count_same 1000000 (λ k. nat_le (f k) t) (λ k. nat_le (g k) u)
     (λ k a b.
     ⊎_elim
     (λ (late : t < f k).

@@ -1,7 +1,7 @@
 // A set of machine places, as one word.
 //
 // A book's machines stand at the places 0 to 31 in ascending number. Every contract here says through `has`
-// which places a set holds, and nothing else.
+// which places a set holds; that of `==` says too what it compares.
 #![tactic(auto)]
 
 ghost use Rattle.std.specs.Prelude.{◌≡◌, ℕ, false, not, ◌&&◌, ◌||◌, Decides, MatchOption, ◌==◌, nat_lt};
