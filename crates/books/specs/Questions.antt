@@ -1,5 +1,6 @@
--- The questions that are put to a settled book, and their checks, in order.
+-- The questions that are put to a settled book, and the checks that may refuse them.
 --   handed_with q        what the question q is handed, as the checks read it
+--   question_checks q    the checks that may refuse the question q, in order
 --   first_told q s       the first check of the question q that applies at what stands, if one does
 use Rattle.std.specs.Prelude.{ℕ, List, [], ◌∷◌, Option}
 use Rattle.books.specs.declared.refusal.Refusal.{Refusal}
