@@ -1,8 +1,8 @@
 -- Records in ascending number: what a record put in, taken out or replaced at its place leaves.
-use Rattle.std.proofs.Common.{◌≡◌, ℕ, zero, suc, ◌<◌, ◌≤◌, Bool, true, false, eqb, ltb, List, [], ◌∷◌, map, length, get_or, set, refl, ⊎_elim, arith}
-use Rattle.std.specs.List.{insert, remove}
+use Rattle.std.proofs.Common.{◌≡◌, ℕ, zero, suc, ◌<◌, ◌≤◌, Bool, true, false, eqb, ltb, List, [], ◌∷◌, map, length, get_or, set, Result, Ok, Err, MatchResult, is_ok, sym, refl, ⊎_elim, arith}
+use Rattle.std.specs.List.{insert, remove, list_all}
 use Rattle.std.proofs.lemmas.Bool.{and_parts, and_from, ltb-true, lt-ltb, eq-eqb, ne_eqb, or_from, or_left, or_right, cases_lt}
-use Rattle.books.specs.Numbers.{all, among, rising, ascending, Found, Missing}
+use Rattle.books.specs.Numbers.{among, rising, ascending, Found, Missing}
 use Rattle.books.proofs.Orders.{rising_above, rising_ascends}
 
 -- a number that is found is among them, and one that is missing is not
@@ -20,6 +20,10 @@ pub missing_among : (n : ℕ) (ns : List ℕ) (i : ℕ) → Missing n ns i → a
 missing_among n ns i m =
     none_among n ns
     (λ k lt e. ⊎_elim (λ (below : k < i). omega (arith, m.lower k below)) (λ (from : i ≤ k). omega (arith, m.higher k from lt)) (cases_lt k i))
+
+pub found_tells : (n : ℕ) (ns : List ℕ) (r : Result ℕ ℕ) → MatchResult r (Found n ns) (Missing n ns) → is_ok r ≡ among n ns
+found_tells n ns (Ok i) f = sym (found_among n ns i f.within f.here)
+found_tells n ns (Err i) m = sym (missing_among n ns i m)
 
 -- without the first number, one place less
 pub found_next : (n k : ℕ) (ks : List ℕ) (i : ℕ) → Found n (k ∷ ks) (suc i) → Found n ks i
@@ -78,30 +82,30 @@ module _ {R : Type 0} (key : R → ℕ) where
 
 -- a test that all records pass
 module _ {R : Type 0} (p : R → Bool) where
-  pub all_inserted : (rs : List R) (i : ℕ) (r : R) → all p rs ≡ true → p r ≡ true → all p (insert rs i r) ≡ true
-  all_inserted rs zero r each new = and_from (p r) (all p rs) new each
+  pub all_inserted : (rs : List R) (i : ℕ) (r : R) → list_all p rs ≡ true → p r ≡ true → list_all p (insert rs i r) ≡ true
+  all_inserted rs zero r each new = and_from (p r) (list_all p rs) new each
   all_inserted [] (suc i) r each new = and_from (p r) true new refl
   all_inserted (x ∷ xs) (suc i) r each new =
-      let parts = and_parts (p x) (all p xs) each in
-      and_from (p x) (all p (insert xs i r)) parts.0 (all_inserted xs i r parts.1 new)
+      let parts = and_parts (p x) (list_all p xs) each in
+      and_from (p x) (list_all p (insert xs i r)) parts.0 (all_inserted xs i r parts.1 new)
 
-  pub all_removed : (rs : List R) (i : ℕ) → all p rs ≡ true → all p (remove rs i) ≡ true
+  pub all_removed : (rs : List R) (i : ℕ) → list_all p rs ≡ true → list_all p (remove rs i) ≡ true
   all_removed [] zero each = refl
   all_removed [] (suc i) each = refl
-  all_removed (x ∷ xs) zero each = (and_parts (p x) (all p xs) each).1
+  all_removed (x ∷ xs) zero each = (and_parts (p x) (list_all p xs) each).1
   all_removed (x ∷ xs) (suc i) each =
-      let parts = and_parts (p x) (all p xs) each in
-      and_from (p x) (all p (remove xs i)) parts.0 (all_removed xs i parts.1)
+      let parts = and_parts (p x) (list_all p xs) each in
+      and_from (p x) (list_all p (remove xs i)) parts.0 (all_removed xs i parts.1)
 
-  pub all_replaced : (rs : List R) (i : ℕ) (r : R) → all p rs ≡ true → p r ≡ true → all p (set rs i r) ≡ true
+  pub all_replaced : (rs : List R) (i : ℕ) (r : R) → list_all p rs ≡ true → p r ≡ true → list_all p (set rs i r) ≡ true
   all_replaced [] zero r each new = refl
   all_replaced [] (suc i) r each new = refl
-  all_replaced (x ∷ xs) zero r each new = and_from (p r) (all p xs) new (and_parts (p x) (all p xs) each).1
+  all_replaced (x ∷ xs) zero r each new = and_from (p r) (list_all p xs) new (and_parts (p x) (list_all p xs) each).1
   all_replaced (x ∷ xs) (suc i) r each new =
-      let parts = and_parts (p x) (all p xs) each in
-      and_from (p x) (all p (set xs i r)) parts.0 (all_replaced xs i r parts.1 new)
+      let parts = and_parts (p x) (list_all p xs) each in
+      and_from (p x) (list_all p (set xs i r)) parts.0 (all_replaced xs i r parts.1 new)
 
-  pub all_at : (rs : List R) (i : ℕ) (d : R) → all p rs ≡ true → i < length rs → p (get_or rs i d) ≡ true
+  pub all_at : (rs : List R) (i : ℕ) (d : R) → list_all p rs ≡ true → i < length rs → p (get_or rs i d) ≡ true
   all_at [] i d each lt = absurd (omega arith)
-  all_at (x ∷ xs) zero d each lt = (and_parts (p x) (all p xs) each).0
-  all_at (x ∷ xs) (suc i) d each lt = all_at xs i d (and_parts (p x) (all p xs) each).1 (omega arith)
+  all_at (x ∷ xs) zero d each lt = (and_parts (p x) (list_all p xs) each).0
+  all_at (x ∷ xs) (suc i) d each lt = all_at xs i d (and_parts (p x) (list_all p xs) each).1 (omega arith)

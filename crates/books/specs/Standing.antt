@@ -8,7 +8,7 @@
 --   with_machine m ms           ms and the machine m, at its place
 --   more_blocks b n hs bs       n blocks more of the batch b, which starts with the holders hs where it does not stand
 --   fewer_blocks b n bs         n blocks fewer of the batch b, which is removed with its last block
-use Rattle.std.specs.Prelude.{ℕ, ◌+◌, ◌-◌, cond, List, [], ◌∷◌, map, ◌==◌, nat_lt}
+use Rattle.std.specs.Prelude.{ℕ, ◌+◌, ◌-◌, cond, List, [], ◌∷◌, map, sum_by, ◌==◌, nat_lt}
 use Rattle.books.specs.declared.machine.Machine.{Machine}
 
 pub record Held : Type 0 where
@@ -38,8 +38,7 @@ holders_of b [] = []
 holders_of b (c ∷ cs) = cond (c.number == b) c.holders (holders_of b cs)
 
 abbrev pub all_blocks : List Held → ℕ
-all_blocks [] = 0
-all_blocks (c ∷ cs) = c.blocks + all_blocks cs
+all_blocks bs = sum_by (λ b. b.blocks) bs
 
 abbrev pub with_machine : Machine → List Machine → List Machine
 with_machine m [] = m ∷ []

@@ -13,7 +13,7 @@ mod iter;
 
 pub use iter::Iter;
 
-#[derive(Clone, Copy, Debug)]
+#[derive(Clone, Copy, Debug, Default)]
 pub struct Places {
     word: u32,
 }
