@@ -1,10 +1,10 @@
 -- A batch that is found or missing in a sound book: what its checks ask, and what its change leaves.
-use Rattle.std.proofs.Common.{◌≡◌, ℕ, ◌+◌, ◌-◌, ◌<◌, ◌≤◌, Bool, true, false, not, ◌&&◌, eqb, ltb, leb, List, [], ◌∷◌, map, length, get_or, set, sym, refl, subst, ap, ◌∙◌, ⊎_elim, arith}
+use Rattle.std.proofs.Common.{◌≡◌, ℕ, ◌+◌, ◌-◌, ◌<◌, ◌≤◌, Bool, true, false, not, ◌&&◌, eqb, ltb, leb, List, [], ◌∷◌, map, length, get_or, set, sym, refl, subst, ap, ◌∙◌, arith}
 use Rattle.std.specs.List.{insert, remove}
 use Rattle.std.proofs.lemmas.List.{length-map, map-set, set-get_or, get_or-map, get_or_default}
 use Rattle.std.proofs.lemmas.List.Sums.{sum_by-insert, sum_by-remove, sum_by-set}
 use Rattle.std.proofs.lemmas.Bool.Decides.{nat_tests}
-use Rattle.std.proofs.lemmas.Bool.{and_parts, and_from, and_right, not_from_true, not_from_false, not-true, or_parts, or_from, ltb-false, le-ltb, eq-eqb, eqb-true, cases_Bool, both_ways}
+use Rattle.std.proofs.lemmas.Bool.{and_parts, and_from, and_right, not_from_true, not_from_false, not-true, or_parts, or_from, ltb-false, le-ltb}
 use Rattle.places.specs.declared.Places.{Places}
 use Rattle.places.specs.Has.{has, same_places}
 use Rattle.places.proofs.Digits.{same_places_decides}
@@ -33,15 +33,13 @@ range_from low high v a b = or_from (ltb v low) (ltb high v) (le-ltb v low a) (l
 
 same_refl : (ns : List ℕ) → same ns ns ≡ true
 same_refl [] = refl
-same_refl (n ∷ ns) = and_from (eqb n n) (same ns ns) (eq-eqb n n refl) (same_refl ns)
+same_refl (n ∷ ns) = grind (arith, nat_tests, same_refl ns)
 
 same_eq : (ns ks : List ℕ) → same ns ks ≡ true → ns ≡ ks
 same_eq [] [] e = refl
-same_eq [] (k ∷ ks) e = absurd (both_ways false refl e)
-same_eq (n ∷ ns) [] e = absurd (both_ways false refl e)
-same_eq (n ∷ ns) (k ∷ ks) e =
-    let parts = and_parts (eqb n k) (same ns ks) e in
-    ap (λ (j : ℕ). j ∷ ns) (eqb-true n k parts.0) ∙ ap (λ js. k ∷ js) (same_eq ns ks parts.1)
+same_eq [] (k ∷ ks) e = grind (arith, e)
+same_eq (n ∷ ns) [] e = grind (arith, e)
+same_eq (n ∷ ns) (k ∷ ks) e = grind (arith, nat_tests, e, same_eq ns ks)
 
 -- what the type of a book keeps
 kept : (k : Book) → Sound (length (machines_in k)) (batches_in k) k.blocks
@@ -124,8 +122,7 @@ module _ {k : Book} {b i : ℕ} {c : Batch} (here : Stands k b i c) where
   -- other places are other holders
   pub found_other : {n : ℕ} {p : Places} {hs : List ℕ} → Asked (machines_in k) b n p hs
       → not (same_places c.holders p) ≡ (among b (batch_numbers (standing_of k).batches) && not (same hs (holders_of b (standing_of k).batches)))
-  found_other {p} {hs} asked =
-      ap not (sym same_is) ∙ ap (λ t. t && not (same hs (holders_of b (standing_of k).batches))) (sym found_stands)
+  found_other {p} {hs} asked = grind (arith, same_is, found_stands)
     where
       equal : Bool
       equal = same_places c.holders p
@@ -140,11 +137,7 @@ module _ {k : Book} {b i : ℕ} {c : Batch} (here : Stands k b i c) where
           (sym found_holders ∙ sym (same_eq hs (holders_of b (standing_of k).batches) yes-same) ∙ sym asked.just))
 
       same_is : same hs (holders_of b (standing_of k).batches) ≡ equal
-      same_is =
-          ⊎_elim (λ yes-equal. equal_places yes-equal ∙ sym yes-equal)
-          (λ differ. ⊎_elim (λ yes-same. absurd (both_ways equal differ (equal_numbers yes-same))) (λ not_same. not_same ∙ sym differ)
-          (cases_Bool (same hs (holders_of b (standing_of k).batches))))
-          (cases_Bool equal)
+      same_is = grind (arith, equal_places, equal_numbers)
 
   -- the batch with n blocks in its place
   pub sound_replaced : (n after : ℕ) → outside 1 99999 n ≡ false → after + c.blocks ≡ k.blocks + n

@@ -3,7 +3,7 @@
 --   checks c             the refusals of the call c, in the order in which they are checked
 --   first_refusal c s    the first check of the call c that applies at what stands, if one does
 --   refusal_in r         the refusal that a call answered, if it did
-use Rattle.std.specs.Prelude.{ℕ, ◌+◌, Bool, true, false, cond, not, ◌&&◌, List, [], ◌∷◌, length, Some, None, Ok, Err, Option, Result, ◌==◌, nat_le, nat_lt}
+use Rattle.std.specs.Prelude.{ℕ, ◌+◌, Bool, true, false, if◌then◌else◌, not, ◌&&◌, List, [], ◌∷◌, length, Some, None, Ok, Err, Option, Result, ◌==◌, nat_le, nat_lt}
 use Rattle.std.specs.List.{list_all}
 use Rattle.books.specs.declared.machine.Machine.{Machine}
 use Rattle.books.specs.declared.refusal.Refusal.{Refusal}
@@ -71,7 +71,7 @@ checks (Drop _ _) = BatchNumber ∷ Blocks ∷ BatchUnknown ∷ BatchFewer ∷ [
 
 abbrev pub first_of : List Refusal → Handed → Standing → Option Refusal
 first_of [] h s = None
-first_of (r ∷ rs) h s = cond ((case_of r).applies h s) (Some r) (first_of rs h s)
+first_of (r ∷ rs) h s = if (case_of r).applies h s then Some r else first_of rs h s
 
 abbrev pub first_refusal : Call → Standing → Option Refusal
 first_refusal c s = first_of (checks c) (handed c) s
