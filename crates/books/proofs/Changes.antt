@@ -1,10 +1,10 @@
 -- A batch that is found or missing in a sound book: what its checks ask, and what its change leaves.
-use Rattle.std.proofs.Common.{◌≡◌, ℕ, ◌+◌, ◌-◌, ◌<◌, ◌≤◌, Bool, true, false, not, ◌&&◌, eqb, ltb, leb, List, [], ◌∷◌, map, length, get_or, set, sym, refl, subst, ap, ◌∙◌, arith}
+use Rattle.std.proofs.Common.{◌≡◌, ℕ, ◌+◌, ◌-◌, ◌<◌, ◌≤◌, Bool, true, false, not, ◌&&◌, ltb, List, [], ◌∷◌, map, length, get_or, set, sym, refl, subst, ap, ◌∙◌, arith}
 use Rattle.std.specs.List.{insert, remove}
 use Rattle.std.proofs.lemmas.List.{length-map, map-set, set-get_or, get_or-map, get_or_default}
 use Rattle.std.proofs.lemmas.List.Sums.{sum_by-insert, sum_by-remove, sum_by-set}
 use Rattle.std.proofs.lemmas.Bool.Decides.{nat_tests}
-use Rattle.std.proofs.lemmas.Bool.{and_parts, and_from, and_right, not_from_true, not_from_false, not-true, or_parts, or_from, ltb-false, le-ltb}
+use Rattle.std.proofs.lemmas.Bool.{and_parts, and_from, not_from_false, not-true, or_parts, ltb-false}
 use Rattle.places.specs.declared.Places.{Places}
 use Rattle.places.specs.Has.{has, same_places}
 use Rattle.places.proofs.Digits.{same_places_decides}
@@ -15,7 +15,7 @@ use Rattle.books.specs.Standing.{Held, batch_numbers, blocks_of, holders_of, mor
 use Rattle.books.specs.Refusals.{same}
 use Rattle.books.specs.Holders.{numbers_at}
 use Rattle.books.specs.declared.book.Book.{Book}
-use Rattle.books.specs.Views.{machines_of, machines_in, batches_in, batch_of, standing_of, IsRead, IsAbsent}
+use Rattle.books.specs.Views.{machines_in, batches_in, batch_of, standing_of, IsRead, IsAbsent}
 use Rattle.books.specs.Edits.{Sound, Asked}
 use Rattle.books.proofs.Orders.{key_at}
 use Rattle.books.proofs.Records.{found_among, missing_among, ascending_inserted, ascending_removed, all_inserted, all_removed, all_replaced, all_at}
@@ -27,9 +27,6 @@ use Rattle.books.proofs.Tables.{numbers_viewed, map_inserted, map_removed, manne
 pub in_range : (low high v : ℕ) → outside low high v ≡ false → (low ≤ v) × (v ≤ high)
 in_range low high v e =
     let parts = or_parts (ltb v low) (ltb high v) e in (ltb-false v low parts.0, ltb-false high v parts.1)
-
-pub range_from : (low high v : ℕ) → low ≤ v → v ≤ high → outside low high v ≡ false
-range_from low high v a b = or_from (ltb v low) (ltb high v) (le-ltb v low a) (le-ltb high v b)
 
 same_refl : (ns : List ℕ) → same ns ns ≡ true
 same_refl [] = refl
@@ -58,9 +55,6 @@ module _ {k : Book} {b i : ℕ} (lacks : Lacks k b i) where
 
   pub missing_blocks : blocks_of b (standing_of k).batches ≡ 0
   missing_blocks = blocks_missing b (standing_of k).batches missing_stands
-
-  pub missing_full : eqb (length (batches_in k)) 128 ≡ (leb 128 (length (standing_of k).batches) && not (among b (batch_numbers (standing_of k).batches)))
-  missing_full = grind (arith, nat_tests, missing_stands, length-map (batches_in k) (batch_of (machines_in k)), k.few)
 
   module _ {n : ℕ} {p : Places} {hs : List ℕ} (asked : Asked (machines_in k) b n p hs) where
     pub sound_inserted : Sound (length (machines_in k)) (insert (batches_in k) i (record { number = b; blocks = n; holders = p })) (k.blocks + n)
@@ -109,9 +103,6 @@ module _ {k : Book} {b i : ℕ} {c : Batch} (here : Stands k b i c) where
 
   found_holders : holders_of b (standing_of k).batches ≡ numbers_at (has c.holders) (machines_in k)
   found_holders = holders_found b (standing_of k).batches i (batch_of (machines_in k) c) found_view ∙ ap (λ h. h.holders) view_at
-
-  pub found_full : (leb 128 (length (standing_of k).batches) && not (among b (batch_numbers (standing_of k).batches))) ≡ false
-  found_full = and_right (leb 128 (length (standing_of k).batches)) _ (not_from_true _ found_stands)
 
   at_is : (d : Batch) → get_or (batches_in k) i d ≡ c
   at_is d = get_or_default (batches_in k) i d c found_within ∙ sym here.read
@@ -231,11 +222,3 @@ asked_from k {b} {n} {p} {hs} ranges few just inside =
       just = just;
       within = inside;
     }
-
--- a book with the same machines and these batches
-pub standing_written : (old new : Book) (bs : List Batch) (after : List Held) → batches_in new ≡ bs → new.roster ≡ old.roster
-    → map (batch_of (machines_in old)) bs ≡ after → standing_of new ≡ record { machines = machines_in old; batches = after }
-standing_written old new bs after written machines view =
-    ap (λ r. record { machines = machines_of r; batches = map (batch_of (machines_of r)) (batches_in new) }) machines
-    ∙ ap (λ cs. record { machines = machines_in old; batches = map (batch_of (machines_in old)) cs }) written
-    ∙ ap (λ hs. record { machines = machines_in old; batches = hs }) view

@@ -3,7 +3,7 @@ use Rattle.std.proofs.Common.{◌≡◌, ℕ, zero, suc, ◌+◌, ◌<◌, ◌�
 use mathlib.Core.Bool.{or-false}
 use Rattle.std.proofs.lemmas.Bool.{cond-true, ne_eqb, eqb-true, or_right, or_from, or_cases, and_left, or_parts, both_ways, cases_Bool, cases_lt, cases_eq, cases_order}
 use Rattle.std.proofs.lemmas.Bool.Decides.{nat_tests}
-use Rattle.std.proofs.lemmas.List.{get_or-take, length-take, length-map, take_more, drop_more, drop_all}
+use Rattle.std.proofs.lemmas.List.{get_or-take, length-take, length-map, take_more, drop_more}
 use Rattle.books.specs.declared.machine.Machine.{Machine}
 use Rattle.books.specs.Numbers.{among, ascending, Found}
 use Rattle.books.specs.Standing.{machine_numbers}
@@ -82,9 +82,6 @@ pub record Gathered (ms : List Machine) (ns : List ℕ) (held : ℕ → Bool) (j
 module _ (ms : List Machine) (ns : List ℕ) (held : ℕ → Bool) where
   pub gathered_none : ((k : ℕ) → held k ≡ false) → Gathered ms ns held 0
   gathered_none none = record { left = refl; just = λ up. numbers_none held ms (λ k few. none k); within = λ k is. absurd (both_ways (held k) (none k) is) }
-
-  pub gathered_all : (j : ℕ) → length ns ≤ j → Gathered ms ns held j → all_among ns (machine_numbers ms) ≡ true
-  gathered_all j ge g = g.left ∙ ap (λ ks. all_among ks (machine_numbers ms)) (drop_all j ns ge)
 
   module _ (j : ℕ) (lt : j < length ns) (g : Gathered ms ns held j) where
     left_at : all_among ns (machine_numbers ms) ≡ (among (get_or ns j 0) (machine_numbers ms) && all_among (drop (j + 1) ns) (machine_numbers ms))
