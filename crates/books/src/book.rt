@@ -1,5 +1,5 @@
 // The machines and the batches of a book, as plain tables, and the plain calls behind those of open and settled books.
-ghost use Rattle.std.specs.Prelude.{◌≡◌, ℕ, ◌+◌, ◌-◌, ◌≤◌, true, false, not, List, [], ◌∷◌, map, length, IfOk, OnOk, OnErr, if◌then◌else◌, Some, None, MatchResult, slice_index_or};
+ghost use Rattle.std.specs.Prelude.{◌≡◌, ℕ, ◌+◌, ◌-◌, ◌≤◌, true, not, List, [], ◌∷◌, map, length, IfOk, OnOk, OnErr, if◌then◌else◌, Some, None, MatchResult, slice_index_or};
 ghost use Rattle.std.specs.List.{list_all};
 ghost use Rattle.books.specs.Numbers.{among, ascending, Found, Missing};
 ghost use Rattle.books.specs.Ranges.{batch_in_range, Manned, numbers_of, blocks_in};

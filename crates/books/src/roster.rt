@@ -1,10 +1,10 @@
 // The machines of a muster or a book, in ascending number, and the plain calls behind those of musters and books.
-ghost use Rattle.std.specs.Prelude.{◌≡◌, ℕ, ◌<◌, ◌≤◌, true, false, not, List, [], ◌∷◌, length, is_ok, IfOk, OnOk, OnErr, if◌then◌else◌, Some, None, MatchResult};
+ghost use Rattle.std.specs.Prelude.{◌≡◌, ℕ, ◌<◌, ◌≤◌, true, not, [], length, is_ok, IfOk, OnOk, OnErr, if◌then◌else◌, Some, None, MatchResult};
 ghost use Rattle.std.specs.List.{list_all};
 ghost use Rattle.places.specs.Has.{has};
 ghost use Rattle.books.specs.Numbers.{among, ascending, outside, Found, Missing};
 ghost use Rattle.books.specs.Ranges.{machine_in_range};
-ghost use Rattle.books.specs.Standing.{Held, machine_numbers};
+ghost use Rattle.books.specs.Standing.{machine_numbers};
 
 use crate::lookup::{find, place_of};
 use crate::machine::Machine;
@@ -22,8 +22,8 @@ pub struct Roster {
 
 impl Roster {
     ghost use Rattle.books.specs.Holders.{numbers_at};
-    ghost use Rattle.books.specs.Calls.{Enlist, Hold, after};
-    ghost use Rattle.books.specs.Refusals.{handed, first_of, first_refusal, refusal_in, all_among};
+    ghost use Rattle.books.specs.Calls.{Enlist, after};
+    ghost use Rattle.books.specs.Refusals.{first_refusal, refusal_in, all_among};
     ghost use Rattle.books.specs.Views.{machines_of, mustered};
 
     // No machine.
