@@ -2,9 +2,9 @@
 ghost use Rattle.std.specs.Prelude.{◌≡◌, ℕ, ◌<◌, ◌≤◌, ◌↔◌, Bool, map, length, IsTrue, IfOk};
 ghost use Rattle.books.specs.Questions.{Load, Share, Ending, first_told};
 ghost use Rattle.books.specs.Refusals.{refusal_in};
-ghost use Rattle.books.specs.Views.{batch_of};
+ghost use Rattle.books.specs.Views.{batch_of, standing_of};
 ghost use Rattle.shares.specs.Marks.{machine_at};
-ghost use Rattle.shares.specs.Plans.{load_at};
+ghost use Rattle.shares.specs.Plans.{share, load_at};
 ghost use Rattle.planner.specs.Lent.{IsMachineList, IsBatchList};
 ghost use Rattle.planner.specs.ShareOuts.{machine_count, held_at, Shared, load_of, Best, NoChainHelps, LastEnding, SameTable, SameLoads, ShareOut, blocks_of_set};
 ghost use Rattle.planner.specs.States.{in_book, in_settled, book_pace, settled_pace, shares_in};
@@ -90,14 +90,12 @@ impl<P: Pace> SettledBook<P> {
         ensures no_machine_ends_later { (i : ℕ) → i < machine_count (in_settled self.now) → P.Pace.table (settled_pace self.now) (machine_at (in_settled self.now).machines i).terms (load_at self.now.plan i) ≤ result }
         ensures some_machine_ends_then { 0 < result → (i : ℕ) × (i < machine_count (in_settled self.now)) × (P.Pace.table (settled_pace self.now) (machine_at (in_settled self.now).machines i).terms (load_at self.now.plan i) ≡ result) }
     {
-        let mut latest = 0;
-        for (i, machine) in self.machines().iter().enumerate() {
-            let moment = self.pace.moment(machine.terms, self.plan.load(i));
-            if moment > latest {
-                latest = moment;
-            }
-        }
-        latest
+        self.machines()
+            .iter()
+            .enumerate()
+            .map(|(i, machine)| self.pace.moment(machine.terms, self.plan.load(i)))
+            .max()
+            .unwrap_or(0)
     }
 
     // Whether both books have the same machine numbers and the same load on each machine.
@@ -105,25 +103,18 @@ impl<P: Pace> SettledBook<P> {
         ensures tells_whether_numbers_and_loads_agree { IsTrue result ↔ SameLoads (in_settled self.now) (shares_in self.now) (in_settled other.now) (shares_in other.now) }
         ensures equal_books_have_equal_loads { NoChainHelps (P.Pace.table (settled_pace self.now)) (in_settled self.now) (shares_in self.now) → NoChainHelps (Q.Pace.table (settled_pace other.now)) (in_settled other.now) (shares_in other.now) → SameTable (P.Pace.table (settled_pace self.now)) (Q.Pace.table (settled_pace other.now)) → (in_settled self.now).machines ≡ (in_settled other.now).machines → ((S : ℕ → Bool) → blocks_of_set (in_settled self.now) S ≡ blocks_of_set (in_settled other.now) S) → IsTrue result }
     {
-        self.loads_agree(other)
+        loads_agree(&self.plan, &other.plan)
     }
 }
 
-impl<P> SettledBook<P> {
-    // The comparison itself; only the law of `same_loads` needs the paces.
-    fn loads_agree<Q>(&self, other: &SettledBook<Q>) -> bool
-        ensures tells_whether_numbers_and_loads_agree { IsTrue result ↔ SameLoads (in_settled self.now) (shares_in self.now) (in_settled other.now) (shares_in other.now) }
-    {
-        let machines = self.machines();
-        let others = other.machines();
-        if machines.len() != others.len() {
-            return false;
-        }
-        for i in 0..machines.len() {
-            if machines[i].number != others[i].number || self.plan.load(i) != other.plan.load(i) {
-                return false;
-            }
-        }
-        true
-    }
+// The comparison itself, which needs no pace.
+fn loads_agree(plan: &Plan, other: &Plan) -> bool
+    ensures tells_whether_numbers_and_loads_agree { IsTrue result ↔ SameLoads (standing_of plan.now.book) (share plan.now) (standing_of other.now.book) (share other.now) }
+{
+    let machines = plan.book().machines();
+    let others = other.book().machines();
+    machines.len() == others.len()
+        && machines.iter().zip(others).enumerate().all(|(i, (machine, twin))| {
+            machine.number == twin.number && plan.load(i) == other.load(i)
+        })
 }
