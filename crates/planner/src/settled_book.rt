@@ -48,6 +48,7 @@ impl<P> SettledBook<P> {
     }
 
     // The blocks of the batch that the machine is to send; 0 for a machine that is no holder.
+    #[tactic(auto, using(crate::proofs::Standings::shared))]
     pub fn share(&self, batch: u32, machine: u16) -> Result<u32, Refusal>
         ensures refuses_by_the_first_check_that_applies { refusal_in result ≡ first_told (Share batch machine) (in_settled self.now) }
         ensures gives_the_share { IfOk result (λ v. (b i : ℕ) → b < length (in_settled self.now).batches → (held_at (in_settled self.now) b).number ≡ batch → i < machine_count (in_settled self.now) → (machine_at (in_settled self.now).machines i).number ≡ machine → v ≡ shares_in self.now b i) }
