@@ -16,7 +16,7 @@ pub struct MachineRow {
     pub backlog: u32,
 }
 
-// The first `holder_count` of the holders count, at most 32.
+// The holders as C hands a list: the first `holder_count` of the array count, at most 32.
 #[repr(C)]
 #[derive(Clone, Copy)]
 pub struct BatchRow {
@@ -25,7 +25,7 @@ pub struct BatchRow {
     pub holders: [u16; 32],
 }
 
-// Settles by the even pace.
+// Settles by the even pace. C calls no generic function, so each pace has one of its own.
 #[unsafe(no_mangle)]
 pub extern "C" fn bench_settle_even(
     machines: &[MachineRow],
