@@ -1,6 +1,10 @@
 -- The laws of settled books: stable is best, the least last ending, equal loads.
-use Rattle.std.proofs.Common.{◌≡◌, ℕ, zero, suc, ◌+◌, ◌*◌, ◌<◌, ◌≤◌, Bool, true, false, ◌&&◌, ◌||◌, eqb, ltb, List, length, get_or, sym, refl, ap, ◌∙◌, subst, inl, inr, arith}
-use Rattle.std.proofs.lemmas.List.{same_lists, length-map, get_or_default}
+use Rattle.std.proofs.Common.{◌==◌, Decides, ◌≡◌, ℕ, zero, suc, ◌+◌, ◌*◌, ◌<◌, ◌≤◌, Bool, true, false, ◌&&◌, ◌||◌, eqb, ltb, List, length, get_or, sym, refl, ap, ◌∙◌, subst, inl, inr, arith}
+use Rattle.std.specs.List.{All, enumerate_from, list_all, zip}
+use Rattle.std.proofs.lemmas.List.FromFn.{length-enumerate_from, get_or-enumerate_from}
+use Rattle.std.proofs.lemmas.Slice.Zip.{length-zip, get_or-zip}
+use Rattle.std.proofs.lemmas.List.{same_lists, length-map, get_or-map}
+use Rattle.std.proofs.lemmas.Bool.Decides.{Decides-and, Decides-by_and, Decides-eqb}
 use Rattle.std.proofs.lemmas.Bool.{cases_Bool, cases_lt, cases_eq, lt-ltb, le-ltb}
 use Rattle.pace.specs.declared.terms.Terms.{Terms}
 use Rattle.pace.specs.Moments.{Fit, count}
@@ -17,9 +21,9 @@ use Rattle.books.specs.Standing.{machine_numbers}
 use Rattle.books.specs.Views.{machines_in, standing_of}
 use Rattle.shares.specs.declared.mark.Mark.{Mark}
 use Rattle.shares.specs.declared.plan.Plan.{Plan}
-use Rattle.shares.specs.Marks.{later, machine_at, values}
+use Rattle.shares.specs.Marks.{later, no_machine, machine_at, values}
 use Rattle.shares.specs.Plans.{machines_at, share, load_at}
-use Rattle.shares.proofs.Facts.{number_small, number_at, terms_fit}
+use Rattle.shares.proofs.Facts.{number_small, terms_fit}
 use Rattle.shares.proofs.Planned.{loads_are}
 use Rattle.shares.proofs.Ordering.{later_value, not_later_value, marks_ordered}
 use Rattle.planner.specs.ShareOuts.{ShareOut, SameTable, to_share, Shared, load_of, mark_at, blocks_after, Best, NoChainHelps, LastEnding, SameLoads, blocks_of_set}
@@ -152,30 +156,55 @@ module _ (k : Plan) (table : Terms → ℕ → ℕ) (at_zero : (t : Terms) → F
     );
   }
 
--- two books agree just where each number and each load does
+-- two books of equally many machines agree just where the machines at each place do, in number and in load
 module _ (k k' : Plan) where
-  counts : length (machine_numbers (machines_in k.book)) ≡ machines_at k
-  counts = length-map (machines_in k.book) (λ (m : Machine). m.number)
+  -- a place, and the machines that stand there in both
+  abbrev Pair : Type 0
+  Pair = ℕ × (Machine × Machine)
 
-  counts' : length (machine_numbers (machines_in k'.book)) ≡ machines_at k'
-  counts' = length-map (machines_in k'.book) (λ (m : Machine). m.number)
+  abbrev pub pair_agrees : ℕ × (Machine × Machine) → Bool
+  pair_agrees p = (p.1.0.number == p.1.1.number) && (load_at k p.0 == load_at k' p.0)
 
-  pub agree : machines_at k ≡ machines_at k' → ((i : ℕ) → i < machines_at k → (machine_at (machines_in k.book) i).number ≡ (machine_at (machines_in k'.book) i).number)
-      → ((i : ℕ) → i < machines_at k → load_at k i ≡ load_at k' i) → SameLoads (standing_of k.book) (share k) (standing_of k'.book) (share k')
-  agree long numbers loads = record {
-    numbers = same_lists (machine_numbers (machines_in k.book)) (machine_numbers (machines_in k'.book)) (omega (arith, counts, counts', long)) (λ i d l.
-        let li : i < machines_at k = omega (arith, l, counts) in
-        get_or_default (machine_numbers (machines_in k.book)) i d 0 l ∙ number_at k.book i li ∙ numbers i li
-        ∙ sym (number_at k'.book i (omega (arith, li, long))) ∙ get_or_default (machine_numbers (machines_in k'.book)) i 0 d (omega (arith, li, long, counts')));
-    loads = λ i l. sym (load_is k i) ∙ loads i l ∙ load_is k' i;
-  }
+  abbrev PairAgrees : Pair → Type 0
+  PairAgrees p = (p.1.0.number ≡ p.1.1.number) × (load_at k p.0 ≡ load_at k' p.0)
 
-  module _ (same : SameLoads (standing_of k.book) (share k) (standing_of k'.book) (share k')) where
-    pub agree_count : machines_at k ≡ machines_at k'
-    agree_count = sym counts ∙ ap length same.numbers ∙ counts'
+  abbrev pub both : List (Machine × Machine)
+  both = zip (machines_in k.book) (machines_in k'.book)
 
-    pub agree_number : (i : ℕ) → i < machines_at k → (machine_at (machines_in k.book) i).number ≡ (machine_at (machines_in k'.book) i).number
-    agree_number i l = sym (number_at k.book i l) ∙ ap (λ (ns : List ℕ). get_or ns i 0) same.numbers ∙ number_at k'.book i (omega (arith, l, agree_count))
+  told : Decides (list_all pair_agrees (enumerate_from 0 both)) (All PairAgrees (enumerate_from 0 both))
+  told =
+      Decides-by_and pair_agrees PairAgrees (list_all pair_agrees) (λ (p : Pair). Decides-and _ _ (Decides-eqb p.1.0.number p.1.1.number) (Decides-eqb (load_at k p.0) (load_at k' p.0))) refl (λ _ _. refl)
+      (enumerate_from 0 both)
 
-    pub agree_load : (i : ℕ) → i < machines_at k → load_at k i ≡ load_at k' i
-    agree_load i l = load_is k i ∙ same.loads i l ∙ sym (load_is k' i)
+  module _ (long : machines_at k ≡ machines_at k') where
+    as_many : length both ≡ machines_at k
+    as_many = omega (arith, length-zip (machines_in k.book) (machines_in k'.book), long)
+
+    pair_at : (i : ℕ) (d : Pair) → i < machines_at k → get_or (enumerate_from 0 both) i d ≡ (i, (get_or (machines_in k.book) i d.1.0, get_or (machines_in k'.book) i d.1.1))
+    pair_at i d l =
+        let from_0 : 0 + i ≡ i = omega arith in
+        get_or-enumerate_from 0 both i d (omega (arith, as_many, l))
+        ∙ ap (λ (n : ℕ). (n, get_or both i d.1)) from_0
+        ∙ ap (λ (p : Machine × Machine). (i, p)) (get_or-zip (machines_in k.book) (machines_in k'.book) i d.1 l (omega (arith, l, long)))
+
+    number_is : (k : Plan) (i e : ℕ) (d : Machine) → i < machines_at k → get_or (machine_numbers (machines_in k.book)) i e ≡ (get_or (machines_in k.book) i d).number
+    number_is k i e d l = get_or-map (λ (m : Machine). m.number) (machines_in k.book) i d e l
+
+    pub agree : Decides (list_all pair_agrees (enumerate_from 0 both)) (SameLoads (standing_of k.book) (share k) (standing_of k'.book) (share k'))
+    agree = (
+      (λ t.
+          let at : (i : ℕ) → i < machines_at k → PairAgrees (i, (machine_at (machines_in k.book) i, machine_at (machines_in k'.book) i)) = λ i l.
+          subst PairAgrees (pair_at i (0, (no_machine, no_machine)) l) (told.0 t i (0, (no_machine, no_machine)) (omega (arith, l, length-enumerate_from 0 both, as_many))) in
+          record {
+            numbers = same_lists (machine_numbers (machines_in k.book)) (machine_numbers (machines_in k'.book)) (omega (arith, length-map (machines_in k.book) (λ (m : Machine). m.number), length-map (machines_in k'.book) (λ (m : Machine). m.number), long)) (λ i d l.
+                let li : i < machines_at k = omega (arith, l, length-map (machines_in k.book) (λ (m : Machine). m.number)) in
+                number_is k i d no_machine li ∙ (at i li).0 ∙ sym (number_is k' i d no_machine (omega (arith, li, long))));
+            loads = λ i l. sym (load_is k i) ∙ (at i l).1 ∙ load_is k' i;
+          }),
+      (λ same. told.1 (λ i d l.
+          let li : i < machines_at k = omega (arith, l, length-enumerate_from 0 both, as_many) in
+          subst PairAgrees (sym (pair_at i d li)) (
+            sym (number_is k i 0 d.1.0 li) ∙ ap (λ (ns : List ℕ). get_or ns i 0) same.numbers ∙ number_is k' i 0 d.1.1 (omega (arith, li, long)),
+            load_is k i ∙ same.loads i li ∙ sym (load_is k' i),
+          ))),
+    )
