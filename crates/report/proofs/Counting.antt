@@ -1,5 +1,5 @@
--- The blocks of batches, as sums; and the batches of just one set of holders, by a test.
-use Rattle.std.proofs.Common.{◌≡◌, ℕ, ◌+◌, ◌≤◌, ◌↔◌, Bool, IsTrue, List, [], ◌∷◌, sum_by, filter, refl, ap, ◌∙◌, inl, inr, arith}
+-- The batches of just one set of holders, by a test, and the sum of their blocks.
+use Rattle.std.proofs.Common.{◌≤◌, ◌↔◌, Bool, IsTrue, List, [], ◌∷◌, filter, inl, inr, arith}
 use Rattle.std.proofs.lemmas.Bool.{cases_Bool, both_ways}
 use Rattle.std.proofs.lemmas.List.Sums.{sum_by-cons}
 use Rattle.places.specs.declared.Places.{Places}
@@ -9,13 +9,6 @@ use Rattle.books.specs.declared.batch.Batch.{Batch}
 use Rattle.books.specs.Ranges.{blocks_in}
 use Rattle.report.specs.Sets.{Just, Counted, none, counts, skips}
 
-abbrev pub blocks_summed : List Batch → ℕ
-blocks_summed bs = sum_by (λ (b : Batch). b.blocks) bs
-
-pub blocks_summed_is : (bs : List Batch) → blocks_summed bs ≡ blocks_in bs
-blocks_summed_is [] = refl
-blocks_summed_is (b ∷ bs) = sum_by-cons (λ (c : Batch). c.blocks) b bs ∙ ap (λ (n : ℕ). b.blocks + n) (blocks_summed_is bs)
-
 abbrev pub has_just : Places → Batch → Bool
 has_just h b = same_places b.holders h
 
@@ -23,16 +16,16 @@ pub has_just_is : (h : Places) (b : Batch) → IsTrue (has_just h b) ↔ Just (h
 has_just_is h b = same_places_decides b.holders h
 
 module _ (h : Places) where
-  pub counted : (bs : List Batch) → Counted (has h) bs (blocks_summed (filter (has_just h) bs))
+  pub counted : (bs : List Batch) → Counted (has h) bs (blocks_in (filter (has_just h) bs))
   counted [] = none
   counted (b ∷ bs) = elim (cases_Bool (has_just h b)) [
     | inl e ↦ rw (e, sum_by-cons (λ (c : Batch). c.blocks) b (filter (has_just h) bs)) (counts ((has_just_is h b).0 e) (counted bs))
     | inr e ↦ rw e (skips (λ just. both_ways _ e ((has_just_is h b).1 just)) (counted bs))
   ]
 
-  pub counted_fits : (bs : List Batch) → blocks_summed (filter (has_just h) bs) ≤ blocks_in bs
+  pub counted_fits : (bs : List Batch) → blocks_in (filter (has_just h) bs) ≤ blocks_in bs
   counted_fits [] = omega arith
   counted_fits (b ∷ bs) = elim (cases_Bool (has_just h b)) [
-    | inl e ↦ rw e (omega (arith, sum_by-cons (λ (c : Batch). c.blocks) b (filter (has_just h) bs), counted_fits bs))
-    | inr e ↦ rw e (omega (arith, counted_fits bs))
+    | inl e ↦ rw e (omega (arith, sum_by-cons (λ (c : Batch). c.blocks) b (filter (has_just h) bs), sum_by-cons (λ (c : Batch). c.blocks) b bs, counted_fits bs))
+    | inr e ↦ rw e (omega (arith, sum_by-cons (λ (c : Batch). c.blocks) b bs, counted_fits bs))
   ]

@@ -3,15 +3,16 @@ use Rattle.std.proofs.lemmas.Iterator.{YieldsList-from_slice, YieldsList-from_ma
 use Rattle.std.proofs.lemmas.Iterator.Consumers.{YieldsList-at, YieldsList-from_filter, sum_by_from_yields_List, fits_by_from_yields_list}
 use Rattle.places.specs.Has.{has}
 use Rattle.books.specs.declared.batch.Batch.{Batch}
+use Rattle.books.specs.Ranges.{blocks_in}
 use Rattle.report.specs.Sets.{Counted}
-use Rattle.report.proofs.Counting.{blocks_summed, has_just, counted, counted_fits}
+use Rattle.report.proofs.Counting.{has_just, counted, counted_fits}
 use Rattle.report.proofs.sums.blocks_of_set.Goals as goal
 
 pub sum-requires-clause-fits : goal.sum-requires-clause-fits
 sum-requires-clause-fits c =
     let bs = c.args.batches.now in
     let h = c.args.holders in
-    let few : blocks_summed (filter (has_just h) bs) < 4294967296 = omega (arith, counted_fits h bs) in
+    let few : blocks_in (filter (has_just h) bs) < 4294967296 = omega (arith, counted_fits h bs) in
     fits_by_from_yields_list (λ (b : Batch). b.blocks) (filter (has_just h) bs) c.map.result _
     (YieldsList-from_map _ (λ (b : Batch). b.blocks)
     (YieldsList-at c.map.ensures.source (YieldsList-from_filter _ (has_just h) (YieldsList-at c.filter.ensures.source (YieldsList-from_slice bs (cc))) c.filter.ensures.closure (λ x b q k. search (rules, tests))))
@@ -22,7 +23,7 @@ pub returns : goal.returns
 returns c =
     let bs = c.args.batches.now in
     let h = c.args.holders in
-    let told : c.sum.result ≡ blocks_summed (filter (has_just h) bs) =
+    let told : c.sum.result ≡ blocks_in (filter (has_just h) bs) =
     sum_by_from_yields_List (λ (b : Batch). b.blocks) (filter (has_just h) bs) c.map.result c.sum.result c.sum.ensures.ran
     (YieldsList-from_map _ (λ (b : Batch). b.blocks)
     (YieldsList-at c.map.ensures.source (YieldsList-from_filter _ (has_just h) (YieldsList-at c.filter.ensures.source (YieldsList-from_slice bs (cc))) c.filter.ensures.closure (λ x b q k. search (rules, tests))))
