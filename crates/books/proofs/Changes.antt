@@ -1,5 +1,6 @@
 -- A batch that is found or missing in a sound book: what its checks ask, and what its change leaves.
-use Rattle.std.proofs.Common.{◌≡◌, ℕ, ◌+◌, ◌-◌, ◌<◌, ◌≤◌, Bool, true, false, not, ◌&&◌, ltb, List, [], ◌∷◌, map, length, get_or, set, sym, refl, subst, ap, ◌∙◌, arith}
+use Rattle.std.specs.Result.{result_or}
+use Rattle.std.proofs.Common.{Result, Ok, Err, MatchResult, IfOk, ◌≡◌, ℕ, ◌+◌, ◌-◌, ◌<◌, ◌≤◌, Bool, true, false, not, ◌&&◌, ltb, List, [], ◌∷◌, map, length, get_or, set, sym, refl, subst, ap, ◌∙◌, arith}
 use Rattle.std.specs.List.{insert, remove}
 use Rattle.std.proofs.lemmas.List.{length-map, map-set, set-get_or, get_or-map, get_or_default}
 use Rattle.std.proofs.lemmas.List.Sums.{sum_by-insert, sum_by-remove, sum_by-set}
@@ -14,6 +15,7 @@ use Rattle.books.specs.Ranges.{batch_in_range, some_below, no_batch, numbers_of}
 use Rattle.books.specs.Standing.{Held, batch_numbers, blocks_of, holders_of, more_blocks, fewer_blocks}
 use Rattle.books.specs.Refusals.{same}
 use Rattle.books.specs.Holders.{numbers_at}
+use Rattle.books.specs.declared.refusal.Refusal.{Refusal}
 use Rattle.books.specs.declared.book.Book.{Book}
 use Rattle.books.specs.Views.{machines_in, batches_in, batch_of, standing_of, IsRead, IsAbsent}
 use Rattle.books.specs.Edits.{Sound, Asked}
@@ -81,6 +83,16 @@ module _ {k : Book} {b i : ℕ} (lacks : Lacks k b i) where
 pub record Stands (k : Book) (b i : ℕ) (c : Batch) : Type 0 where
   pub found : Found b (numbers_of (batches_in k)) i
   pub read : c ≡ get_or (batches_in k) i c
+
+-- a batch that was found, where a refusal would have told that there is none
+pub stands_or : (k : Book) {b i : ℕ} {c : Batch} (unknown : Refusal) (r : Result (ℕ × Batch) ℕ) → Ok (i, c) ≡ result_or r (Err unknown)
+    → MatchResult r (λ p. Found b (numbers_of (batches_in k)) p.0) (Missing b (numbers_of (batches_in k)))
+    → IfOk r (λ p. p.1 ≡ get_or (batches_in k) p.0 p.1) → Stands k b i c
+stands_or k {b} {i} {c} unknown (Ok p) is found read =
+    let at_p : Stands k b p.0 p.1 = record { found = found; read = read } in
+    let same : p ≡ (i, c) = cc in
+    rw same at at_p
+stands_or k unknown (Err j) is found read = grind (arith, is)
 
 module _ {k : Book} {b i : ℕ} {c : Batch} (here : Stands k b i c) where
   pub found_within : i < length (batches_in k)

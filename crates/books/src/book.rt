@@ -158,9 +158,7 @@ impl Book {
         ensures leaves_the_batches_sound { IfOk result (λ e. Sound (length (machines_in self.now)) (edited e (batches_in self.now)) (self.now.blocks - blocks)) }
         ensures takes_the_blocks { IfOk result (λ e. map (batch_of (machines_in self.now)) (edited e (batches_in self.now)) ≡ fewer_blocks number blocks (standing_of self.now).batches) }
     {
-        let Ok((at, batch)) = self.find(number) else {
-            return Err(Refusal::BatchUnknown);
-        };
+        let (at, batch) = self.find(number).or(Err(Refusal::BatchUnknown))?;
         refuse_if(batch.blocks < blocks, Refusal::BatchFewer)?;
         if batch.blocks == blocks {
             return Ok(Edit::Remove(at));
