@@ -26,7 +26,7 @@ use Rattle.shares.specs.Plans.{machines_at, share, load_at}
 use Rattle.shares.proofs.Facts.{number_small, terms_fit}
 use Rattle.shares.proofs.Planned.{loads_are}
 use Rattle.shares.proofs.Ordering.{later_value, not_later_value, marks_ordered}
-use Rattle.planner.specs.ShareOuts.{ShareOut, SameTable, to_share, Shared, load_of, mark_at, blocks_after, Best, NoChainHelps, LastEnding, SameLoads, blocks_of_set}
+use Rattle.planner.specs.ShareOuts.{AlikeSettled, ShareOut, to_share, Shared, load_of, mark_at, blocks_after, Best, NoChainHelps, LastEnding, SameLoads}
 use Rattle.planner.proofs.Standings.{load_is}
 use Rattle.planner.proofs.AfterMarks.{next_value, blocks_counted}
 
@@ -101,22 +101,21 @@ module _ (k k' : Book) (table table' : Terms → ℕ → ℕ) (up : (t : Terms) 
   same_again : Alike (length (machines_in k)) (to_share (standing_of k')) (to_share (standing_of k'))
   same_again = record { same_batches = refl; same_holds = λ _ _ _ _. refl; same_blocks = λ _ _. refl }
 
-  pub equal_books : NoChainHelps table (standing_of k) x → NoChainHelps table' (standing_of k') y → SameTable table table'
-      → (standing_of k).machines ≡ (standing_of k').machines → ((S : ℕ → Bool) → blocks_of_set (standing_of k) S ≡ blocks_of_set (standing_of k') S)
-      → SameLoads (standing_of k) x (standing_of k') y
-  equal_books cx cy same-table same blocks =
+  pub equal_books : AlikeSettled table (standing_of k) x table' (standing_of k') y → SameLoads (standing_of k) x (standing_of k') y
+  equal_books alike =
+      let same = alike.same_machines in
       let ms = machines_in k in
       let m = length ms in
       let sy' : Complete m (to_share (standing_of k')) y = subst (λ (l : List Machine). Complete (length l) (to_share (standing_of k')) y) (sym same) sy in
       let st : Stable m (values table' ms) (to_share (standing_of k')) y =
-      subst (λ (l : List Machine). Stable (length l) (values table' l) (to_share (standing_of k')) y) (sym same) (chains_stable k' table' y cy) in
+      subst (λ (l : List Machine). Stable (length l) (values table' l) (to_share (standing_of k')) y) (sym same) (chains_stable k' table' y alike.no_chain_helps_in_the_other) in
       let st' : Stable m (values table ms) (to_share (standing_of k')) y =
-      stable_alike same_again y {p = values table' ms} (λ i j l. ap (λ (v : ℕ). v * 10000 + (machine_at ms i).number) (sym (same-table (machine_at ms i).terms j (terms_fit k i l)))) st in
+      stable_alike same_again y {p = values table' ms} (λ i j l. ap (λ (v : ℕ). v * 10000 + (machine_at ms i).number) (sym (alike.same_paces (machine_at ms i).terms j (terms_fit k i l)))) st in
       let held : (S : ℕ → Bool) → blocks_held m (to_share (standing_of k)) S ≡ blocks_held m (to_share (standing_of k')) S =
-      subst (λ (l : List Machine). (S : ℕ → Bool) → blocks_held m (to_share (standing_of k)) S ≡ blocks_held (length l) (to_share (standing_of k')) S) (sym same) blocks in
+      subst (λ (l : List Machine). (S : ℕ → Bool) → blocks_held m (to_share (standing_of k)) S ≡ blocks_held (length l) (to_share (standing_of k')) S) (sym same) alike.same_blocks_of_each_set in
       record {
         numbers = ap machine_numbers same;
-        loads = equal_loads m (values table ms) (to_share (standing_of k)) (to_share (standing_of k')) x y (marks_ordered k table up) sx (chains_stable k table x cx) sy' st'
+        loads = equal_loads m (values table ms) (to_share (standing_of k)) (to_share (standing_of k')) x y (marks_ordered k table up) sx (chains_stable k table x alike.no_chain_helps_in_one) sy' st'
             (same_work m (to_share (standing_of k)) (to_share (standing_of k')) held);
       }
 
