@@ -117,7 +117,10 @@ fn full_book() -> OpenBook<Plain> {
 fn the_first_check_that_applies_is_told(rt: HostRuntime) {
     let mut muster = muster(32);
     for (number, ticks, lot, backlog, refusal) in ENLISTS {
-        assert_eq!(rt; told(muster.enlist(number, ticks, lot, backlog)), Err(refusal));
+        assert_eq!(rt;
+            told(muster.enlist(number, ticks, lot, backlog)),
+            Err(refusal)
+        );
     }
     let mut book = full_book();
     for (batch, blocks, holders, refusal) in HOLDS {

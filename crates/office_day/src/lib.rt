@@ -10,8 +10,7 @@ ghost use Rattle.office_day.specs.Day.{tried, all_tried, enlist_alike, enlistmen
 
 use pace::{Backlog, Even};
 use planner::{Muster, OpenBook, Refusal};
-use std::fmt;
-use std::io;
+use std::{fmt, io};
 
 // even blocks after a backlog
 pub type DayPace = Backlog<Even>;
