@@ -1,11 +1,11 @@
 -- The laws of settled books: stable is best, the least last ending, equal loads.
-use Rattle.std.proofs.Common.{◌==◌, Decides, ◌≡◌, ℕ, zero, suc, ◌+◌, ◌*◌, ◌<◌, ◌≤◌, Bool, true, false, ◌&&◌, ◌||◌, eqb, ltb, List, length, get_or, sym, refl, ap, ◌∙◌, subst, inl, inr, arith}
+use Rattle.std.proofs.Common.{◌==◌, Decides, ◌≡◌, ℕ, zero, suc, ◌+◌, ◌*◌, ◌<◌, ◌≤◌, Bool, true, false, ◌&&◌, List, length, get_or, sym, refl, ap, ◌∙◌, subst, inl, inr, arith}
 use Rattle.std.specs.List.{All, enumerate_from, list_all, zip}
 use Rattle.std.proofs.lemmas.List.FromFn.{length-enumerate_from, get_or-enumerate_from}
 use Rattle.std.proofs.lemmas.Slice.Zip.{length-zip, get_or-zip}
 use Rattle.std.proofs.lemmas.List.{same_lists, length-map, get_or-map}
 use Rattle.std.proofs.lemmas.Bool.Decides.{Decides-and, Decides-by_and, Decides-eqb}
-use Rattle.std.proofs.lemmas.Bool.{cases_Bool, cases_lt, cases_eq, lt-ltb, le-ltb}
+use Rattle.std.proofs.lemmas.Bool.{false_from_ne_true, or_from, or_left, and_right, cases_lt, cases_eq, lt-ltb, le-ltb}
 use Rattle.pace.specs.declared.terms.Terms.{Terms}
 use Rattle.pace.specs.Moments.{Fit, count}
 use Rattle.theory.specs.Sums.{only}
@@ -26,7 +26,7 @@ use Rattle.shares.specs.Plans.{machines_at, share, load_at}
 use Rattle.shares.proofs.Facts.{number_small, terms_fit}
 use Rattle.shares.proofs.Planned.{loads_are}
 use Rattle.shares.proofs.Ordering.{later_value, not_later_value, marks_ordered}
-use Rattle.planner.specs.ShareOuts.{ShareOut, SameTable, to_share, Shared, load_of, mark_at, blocks_after, Best, NoChainHelps, LastEnding, SameLoads, blocks_of_set}
+use Rattle.planner.specs.ShareOuts.{AlikeSettled, ShareOut, to_share, Shared, load_of, mark_at, blocks_after, Best, NoChainHelps, LastEnding, SameLoads}
 use Rattle.planner.proofs.Standings.{load_is}
 use Rattle.planner.proofs.AfterMarks.{next_value, blocks_counted}
 
@@ -43,10 +43,8 @@ module _ (k : Book) (table : Terms → ℕ → ℕ) (up : (t : Terms) (j : ℕ) 
 module _ (k : Book) (table : Terms → ℕ → ℕ) (x : ShareOut) where
   not_later_from : (i q a b : ℕ) → i < length (machines_in k) → q < length (machines_in k) → values table (machines_in k) i a ≤ values table (machines_in k) q b
       → later (mark_at table (standing_of k) i a) (mark_at table (standing_of k) q b) ≡ false
-  not_later_from i q a b li lq le = elim (cases_Bool (later (mark_at table (standing_of k) i a) (mark_at table (standing_of k) q b))) [
-    | inl e ↦ absurd (omega (arith, le, later_value (mark_at table (standing_of k) i a) (mark_at table (standing_of k) q b) (number_small k i li) (number_small k q lq) e))
-    | inr e ↦ e
-  ]
+  not_later_from i q a b li lq le =
+      false_from_ne_true _ (λ e. absurd (omega (arith, le, later_value (mark_at table (standing_of k) i a) (mark_at table (standing_of k) q b) (number_small k i li) (number_small k q lq) e)))
 
   -- by marks and by their values
   pub stable_chains : Stable (length (machines_in k)) (values table (machines_in k)) (to_share (standing_of k)) x → NoChainHelps table (standing_of k) x
@@ -78,21 +76,20 @@ module _ (k : Book) (table : Terms → ℕ → ℕ) (x y : ShareOut) (bx : Best 
 
   none_after : blocks_after table (standing_of k) y μ ≡ 0
   unfolding μ
-  none_after = total_eq (length (machines_in k)) _ (λ _. 0) (λ i l. count_none (load_of (standing_of k) y i) _ (λ j a b.
-      rw (le-ltb u (mark_at table (standing_of k) i j).moment (end-y.none_later i j l a b), le-ltb 9999 (machine_at (machines_in k) i).number (omega (arith, number_small k i l))) (last (eqb u (mark_at table (standing_of k) i j).moment)))) ∙ total_zero (length (machines_in k))
-    where
-      last : (s : Bool) → (false || (s && false)) ≡ false
-      last s = grind arith
+  none_after =
+      total_eq (length (machines_in k)) _ (λ _. 0) (λ i l. count_none (load_of (standing_of k) y i) _ (λ j a b.
+      or_from _ _ (le-ltb u (mark_at table (standing_of k) i j).moment (end-y.none_later i j l a b)) (and_right _ _ (le-ltb 9999 (machine_at (machines_in k) i).number (omega (arith, number_small k i l))))))
+      ∙ total_zero (length (machines_in k))
 
   some_after : u < t → 0 < blocks_after table (standing_of k) x μ
   unfolding μ
   some_after h =
       let s = end-x.some_block in
-      let past : ltb u (mark_at table (standing_of k) s.0 s.1).moment ≡ true = lt-ltb u _ (omega (arith, h, s.5)) in
+      let after : ℕ → ℕ → Bool = λ i j. later (mark_at table (standing_of k) i j) (record { moment = u; number = 9999 }) in
       omega (
         arith,
-        count_some (load_of (standing_of k) x s.0) (λ j. later (mark_at table (standing_of k) s.0 j) (record { moment = u; number = 9999 })) s.1 s.3 s.4 (rw past refl),
-        term_le (length (machines_in k)) (λ i. count (load_of (standing_of k) x i) (λ j. later (mark_at table (standing_of k) i j) (record { moment = u; number = 9999 }))) s.0 s.2,
+        count_some (load_of (standing_of k) x s.0) (after s.0) s.1 s.3 s.4 (or_left _ _ (lt-ltb u _ (omega (arith, h, s.5)))),
+        term_le (length (machines_in k)) (λ i. count (load_of (standing_of k) x i) (after i)) s.0 s.2,
       )
 
   pub least_ending : t ≤ u
@@ -104,22 +101,21 @@ module _ (k k' : Book) (table table' : Terms → ℕ → ℕ) (up : (t : Terms) 
   same_again : Alike (length (machines_in k)) (to_share (standing_of k')) (to_share (standing_of k'))
   same_again = record { same_batches = refl; same_holds = λ _ _ _ _. refl; same_blocks = λ _ _. refl }
 
-  pub equal_books : NoChainHelps table (standing_of k) x → NoChainHelps table' (standing_of k') y → SameTable table table'
-      → (standing_of k).machines ≡ (standing_of k').machines → ((S : ℕ → Bool) → blocks_of_set (standing_of k) S ≡ blocks_of_set (standing_of k') S)
-      → SameLoads (standing_of k) x (standing_of k') y
-  equal_books cx cy same-table same blocks =
+  pub equal_books : AlikeSettled table (standing_of k) x table' (standing_of k') y → SameLoads (standing_of k) x (standing_of k') y
+  equal_books alike =
+      let same = alike.same_machines in
       let ms = machines_in k in
       let m = length ms in
       let sy' : Complete m (to_share (standing_of k')) y = subst (λ (l : List Machine). Complete (length l) (to_share (standing_of k')) y) (sym same) sy in
       let st : Stable m (values table' ms) (to_share (standing_of k')) y =
-      subst (λ (l : List Machine). Stable (length l) (values table' l) (to_share (standing_of k')) y) (sym same) (chains_stable k' table' y cy) in
+      subst (λ (l : List Machine). Stable (length l) (values table' l) (to_share (standing_of k')) y) (sym same) (chains_stable k' table' y alike.no_chain_helps_in_the_other) in
       let st' : Stable m (values table ms) (to_share (standing_of k')) y =
-      stable_alike same_again y {p = values table' ms} (λ i j l. ap (λ (v : ℕ). v * 10000 + (machine_at ms i).number) (sym (same-table (machine_at ms i).terms j (terms_fit k i l)))) st in
+      stable_alike same_again y {p = values table' ms} (λ i j l. ap (λ (v : ℕ). v * 10000 + (machine_at ms i).number) (sym (alike.same_paces (machine_at ms i).terms j (terms_fit k i l)))) st in
       let held : (S : ℕ → Bool) → blocks_held m (to_share (standing_of k)) S ≡ blocks_held m (to_share (standing_of k')) S =
-      subst (λ (l : List Machine). (S : ℕ → Bool) → blocks_held m (to_share (standing_of k)) S ≡ blocks_held (length l) (to_share (standing_of k')) S) (sym same) blocks in
+      subst (λ (l : List Machine). (S : ℕ → Bool) → blocks_held m (to_share (standing_of k)) S ≡ blocks_held (length l) (to_share (standing_of k')) S) (sym same) alike.same_blocks_of_each_set in
       record {
         numbers = ap machine_numbers same;
-        loads = equal_loads m (values table ms) (to_share (standing_of k)) (to_share (standing_of k')) x y (marks_ordered k table up) sx (chains_stable k table x cx) sy' st'
+        loads = equal_loads m (values table ms) (to_share (standing_of k)) (to_share (standing_of k')) x y (marks_ordered k table up) sx (chains_stable k table x alike.no_chain_helps_in_one) sy' st'
             (same_work m (to_share (standing_of k)) (to_share (standing_of k')) held);
       }
 

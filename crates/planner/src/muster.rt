@@ -40,9 +40,11 @@ impl<P> Muster<P> {
 
     // Adds a machine; at most 32 are enlisted.
     pub fn enlist(&mut self, number: u16, ticks: u16, lot: u16, backlog: u32) -> Result<(), Refusal>
-        ensures refuses_by_the_first_check_that_applies { refusal_in result ≡ first_refusal (Enlist (machine_with number ticks lot backlog)) (in_muster self.old) }
+        ensures refuses_by_the_first_check_that_applies { refusal_in result
+            ≡ first_refusal (Enlist (machine_with number ticks lot backlog)) (in_muster self.old) }
         ensures changes_nothing_where_refused { OnErr result (self.new ≡ self.old) }
-        ensures adds_the_machine_where_accepted { OnOk result (in_muster self.new ≡ after (Enlist (machine_with number ticks lot backlog)) (in_muster self.old)) }
+        ensures adds_the_machine_where_accepted { OnOk result (
+            in_muster self.new ≡ after (Enlist (machine_with number ticks lot backlog)) (in_muster self.old)) }
         ensures keeps_the_pace { muster_pace self.new ≡ muster_pace self.old }
     {
         let terms = Terms {

@@ -29,7 +29,8 @@ impl<P> OpenBook<P> {
 
     // The batches, in ascending number. Their holders are places among the machines.
     pub fn batches(&self) -> &[Batch]
-        ensures lends_the_batches { map (batch_of (in_book self.now).machines) result.now ≡ (in_book self.now).batches }
+        ensures lends_the_batches { map (batch_of (in_book self.now).machines) result.now
+            ≡ (in_book self.now).batches }
         ensures lends_them_in_order_and_range { IsBatchList (machine_count (in_book self.now)) result.now }
     {
         self.book.batches()
@@ -37,9 +38,11 @@ impl<P> OpenBook<P> {
 
     // Adds blocks to a batch, or starts the batch; the holders are machine numbers, strictly ascending.
     pub fn hold(&mut self, batch: u32, blocks: u32, holders: &[u16]) -> Result<(), Refusal>
-        ensures refuses_by_the_first_check_that_applies { refusal_in result ≡ first_refusal (Hold batch blocks holders.now) (in_book self.old) }
+        ensures refuses_by_the_first_check_that_applies { refusal_in result
+            ≡ first_refusal (Hold batch blocks holders.now) (in_book self.old) }
         ensures changes_nothing_where_refused { OnErr result (self.new ≡ self.old) }
-        ensures adds_the_blocks_where_accepted { OnOk result (in_book self.new ≡ after (Hold batch blocks holders.now) (in_book self.old)) }
+        ensures adds_the_blocks_where_accepted { OnOk result (
+            in_book self.new ≡ after (Hold batch blocks holders.now) (in_book self.old)) }
         ensures keeps_the_pace { book_pace self.new ≡ book_pace self.old }
     {
         self.book.hold(batch, blocks, holders)
@@ -47,9 +50,11 @@ impl<P> OpenBook<P> {
 
     // Takes blocks from a batch, which is removed with its last one.
     pub fn drop(&mut self, batch: u32, blocks: u32) -> Result<(), Refusal>
-        ensures refuses_by_the_first_check_that_applies { refusal_in result ≡ first_refusal (Drop batch blocks) (in_book self.old) }
+        ensures refuses_by_the_first_check_that_applies { refusal_in result
+            ≡ first_refusal (Drop batch blocks) (in_book self.old) }
         ensures changes_nothing_where_refused { OnErr result (self.new ≡ self.old) }
-        ensures takes_the_blocks_where_accepted { OnOk result (in_book self.new ≡ after (Drop batch blocks) (in_book self.old)) }
+        ensures takes_the_blocks_where_accepted { OnOk result (
+            in_book self.new ≡ after (Drop batch blocks) (in_book self.old)) }
         ensures keeps_the_pace { book_pace self.new ≡ book_pace self.old }
     {
         self.book.drop(batch, blocks)
