@@ -1,8 +1,9 @@
 mod Sizes
-mod Zeros
+pub mod Cut
 mod Reaching
 pub mod Facts
-mod Linking
+mod Blocks
+mod Leading
 mod Shifting
 pub mod Planned
 pub mod Ordering

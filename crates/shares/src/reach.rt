@@ -2,9 +2,10 @@
 ghost use Rattle.std.specs.Prelude.{◌≡◌, ℕ, ◌<◌, true, false, ◌||◌};
 ghost use Rattle.places.specs.Has.{has, size};
 ghost use Rattle.shares.specs.Cells.{nth};
-ghost use Rattle.shares.specs.Tables.{leads_to};
+ghost use Rattle.shares.specs.Stations.{leads_to};
 ghost use Rattle.shares.specs.Reaches.{Reached, Noted};
 
+use crate::station::Station;
 use places::Places;
 
 // Each place but the starts has the place that leads to it, and its stage: how many places had been found with
@@ -17,16 +18,16 @@ pub(crate) struct Reach {
 }
 
 impl Reach {
-    // What the words of the places lead to from some of them. The layer has what is left of the places found last; what
+    // What the machines lead to from some of them. The layer has what is left of the places found last; what
     // they lead to is found, and is the next layer.
-    pub(crate) fn of(next: &[Places; 32], from: Places) -> Reach
-        ensures reaches_just_what_chains_lead_to { Reached (leads_to next.now) (has from) (has result.places) (nth result.before) (nth result.stages) }
+    pub(crate) fn of(stations: &[Station; 32], from: Places) -> Reach
+        ensures reaches_just_what_chains_lead_to { Reached (leads_to stations.now) (has from) (has result.places) (nth result.before) (nth result.stages) }
     {
         let mut reach = Reach::starting(from);
         let mut layer = from;
         let mut found = Places::empty();
         while let Some(i) = layer.pop_first() {
-            let new = next[i].minus(reach.places);
+            let new = stations[i].next().minus(reach.places);
             reach.note(i, new);
             (layer, found) = next_layer(layer, found.union(new));
         }

@@ -7,15 +7,14 @@
 ghost use Rattle.std.specs.Prelude.{◌≡◌, ℕ, ◌+◌, ◌-◌, ◌<◌, ◌≤◌, true, false, ◌&&◌, ◌||◌, length, IfSome, MatchOption, ◌==◌, nat_le, nat_lt};
 ghost use Rattle.places.specs.Has.{has, size};
 ghost use Rattle.theory.specs.Moves.{total_of_marks};
-ghost use Rattle.books.specs.Views.{machines_in, batches_in};
+ghost use Rattle.books.specs.Views.{machines_in};
 ghost use Rattle.shares.specs.Cells.{nth};
 ghost use Rattle.shares.specs.Levels.{ClosedBy};
 ghost use Rattle.shares.specs.Marks.{machine_at, mark_of};
-ghost use Rattle.shares.specs.Tables.{leads_to, demand_of, links};
+ghost use Rattle.shares.specs.Tables.{demand_of};
 ghost use Rattle.shares.specs.Plans.{machines_at, share, load_at, values_in, helps, Outreach, ExhaustedPlan, LatestPlan, LevelPlan};
 
 use super::Plan;
-use crate::flow::all_links;
 use crate::mark::Mark;
 use crate::reach::Reach;
 use pace::Pace;
@@ -33,32 +32,6 @@ impl Plan {
                 exhausted = more;
             }
         }
-    }
-
-    // Counts links from so many blocks on.
-    pub(super) fn set_width(&mut self, width: u32)
-        requires wide { 0 < width }
-        ensures keeps_the_book { self.new.book ≡ self.old.book }
-        ensures sets_the_width { self.new.width ≡ width }
-    {
-        let next = self.links_from(width);
-        self.width = width;
-        self.flow.next = next;
-    }
-
-    // Where the links of each machine lead, if they count from so many blocks on.
-    fn links_from(&self, width: u32) -> [Places; 32]
-        ensures has_a_word_for_each_place { length result ≡ 32 }
-        ensures holds_where_the_links_lead { (i j : ℕ) → i < machines_at self.now → leads_to result i j ≡ links width (batches_in self.now.book) (λ b. share self.now b i) j }
-    {
-        let machines = self.book.machines().len();
-        all_links(
-            &self.flow.shares,
-            &self.flow.loads,
-            machines,
-            self.book.batches(),
-            width,
-        )
     }
 
     // Moves blocks from machine i along a chain that helps, past no exhausted machine. Where none helps: the exhausted
@@ -93,7 +66,7 @@ impl Plan {
         requires closed { ClosedBy self.now.width (machines_at self.now) (demand_of self.now.book) (share self.now) (has exhausted) }
         ensures reaches_past_the_exhausted { Outreach self.now (has exhausted) (has result.0) (has result.1.places) i (nth result.1.before) (nth result.1.stages) }
     {
-        let mut reach = Reach::of(&self.flow.next, exhausted.with(i));
+        let mut reach = Reach::of(&self.stations, exhausted.with(i));
         let all = reach.places;
         reach.places = all.minus(exhausted);
         (all, reach)
@@ -105,7 +78,7 @@ impl Plan {
     {
         let mut laden = Places::empty();
         for i in 0..self.book.machines().len() {
-            if self.flow.loads[i] >= self.width {
+            if self.load(i) >= self.width {
                 laden = laden.with(i);
             }
         }
@@ -183,7 +156,7 @@ impl Plan {
         ensures gives_blocks_that_help { helps (P.Pace.table pace.now) self.now i j result ≡ true }
     {
         let mut low = self.width;
-        let mut high = self.flow.loads[i];
+        let mut high = self.load(i);
         while low < high {
             let middle = high - (high - low) / 2;
             if self.is_helped(pace, i, j, middle) {
@@ -201,7 +174,7 @@ impl Plan {
         requires few { blocks ≤ 1000000 }
         ensures gives_the_mark { result ≡ mark_of (P.Pace.table pace.now) (machine_at (machines_in self.now.book) i) (load_at self.now i + blocks) }
     {
-        Mark::of(pace, &self.book.machines()[i], self.flow.loads[i] + blocks)
+        Mark::of(pace, &self.book.machines()[i], self.load(i) + blocks)
     }
 
     // The mark of the first of the machine's last so many blocks.
@@ -210,10 +183,6 @@ impl Plan {
         requires there { (0 < blocks) × (blocks ≤ load_at self.now i) }
         ensures gives_the_mark { result ≡ mark_of (P.Pace.table pace.now) (machine_at (machines_in self.now.book) i) (load_at self.now i - blocks + 1) }
     {
-        Mark::of(
-            pace,
-            &self.book.machines()[i],
-            self.flow.loads[i] - blocks + 1,
-        )
+        Mark::of(pace, &self.book.machines()[i], self.load(i) - blocks + 1)
     }
 }

@@ -18,7 +18,7 @@ impl Plan {
         requires place_stands { place < machines_at self.now }
         ensures gives_the_load { result ≡ load_at self.now place }
     {
-        self.flow.loads[place]
+        self.stations[place].load()
     }
 
     // The blocks of the batch that lie at the machine.
@@ -27,6 +27,6 @@ impl Plan {
         requires place_stands { place < machines_at self.now }
         ensures gives_the_share { result ≡ share self.now batch place }
     {
-        self.flow.shares.row(place)[batch]
+        self.stations[place].blocks_of(batch)
     }
 }

@@ -1,10 +1,12 @@
 -- Where the links of a machine lead, as its blocks come and go.
-use Rattle.std.proofs.Common.{◌≡◌, ℕ, zero, suc, ◌+◌, ◌<◌, ◌≤◌, Bool, true, false, ◌&&◌, ◌||◌, leb, List, length, sym, refl, ap, ◌∙◌, inl, inr, add-one, arith}
+use Rattle.std.proofs.Common.{◌≡◌, ℕ, zero, suc, ◌+◌, ◌<◌, ◌≤◌, Bool, true, false, ◌&&◌, ◌||◌, eqb, leb, List, length, sym, refl, ap, ◌∙◌, inl, inr, add-one, arith}
 use Rattle.std.proofs.lemmas.Bool.{cases_Bool, cases_eq, and_parts, and_from, le-leb, lt-leb, leb-true}
 use Rattle.places.specs.Has.{has}
 use Rattle.books.specs.declared.batch.Batch.{Batch}
 use Rattle.books.specs.Ranges.{some_below, holders_at}
-use Rattle.shares.specs.Tables.{links, Fewer}
+use Rattle.theory.specs.Sums.{only}
+use Rattle.theory.proofs.Sums.{only_off}
+use Rattle.shares.specs.Links.{links}
 use Rattle.shares.proofs.Facts.{some_where}
 
 some_same : (n : ℕ) (p q : ℕ → Bool) → ((k : ℕ) → k < n → p k ≡ q k) → some_below n p ≡ some_below n q
@@ -56,15 +58,26 @@ module _ (d : ℕ) (bs : List Batch) (j : ℕ) where
   unfolding links
   links_same x y same = some_same (length bs) _ _ (λ b l. ap (λ t. t && has (holders_at bs b) j) (same b l))
 
-  -- fewer blocks of the batch b: the same tests pass but for its own
-  pub links_fewer : (b : ℕ) (x y : ℕ → ℕ) → Fewer b x y → leb d (x b) ≡ leb d (y b) → links d bs x j ≡ links d bs y j
-  links_fewer b x y f same = links_same x y (λ c _. elim (cases_eq c b) [ inl e ↦ rw e same | inr ne ↦ ap (leb d) (f.elsewhere c ne) ])
+  -- the row y is x with a blocks of the batch b more
+  module _ (b a : ℕ) (x y : ℕ → ℕ) (more : (c : ℕ) → y c ≡ x c + only (eqb c b) a) where
+    other : (c : ℕ) → (c ≡ b → ⊥) → x c ≡ y c
+    other c ne = omega (arith, more c, only_off c b a ne)
 
-  pub links_gained : (b : ℕ) (x y : ℕ → ℕ) → b < length bs → Fewer b x y → d ≤ y b → links d bs y j ≡ (links d bs x j || has (holders_at bs b) j)
-  unfolding links
-  links_gained b x y l f wide =
-      some_more (length bs) _ _ b l (λ c ne. ap (λ v. leb d v && has (holders_at bs c) j) (sym (f.elsewhere c ne))) (λ t. and_from _ _ (le-leb d (y b) wide) (and_parts _ _ t).1)
-      ∙ ap (λ t. some_below (length bs) (λ c. leb d (x c) && has (holders_at bs c) j) || (t && has (holders_at bs b) j)) (le-leb d (y b) wide)
+    kept : leb d (x b) ≡ leb d (y b) → links d bs x j ≡ links d bs y j
+    kept same = links_same x y (λ c _. elim (cases_eq c b) [ inl e ↦ rw e same | inr ne ↦ ap (leb d) (other c ne) ])
+
+    -- still too few, or enough before
+    pub links_few : y b < d → links d bs x j ≡ links d bs y j
+    links_few few = kept (lt-leb d (x b) (omega (arith, more b, few)) ∙ sym (lt-leb d (y b) few))
+
+    pub links_many : d ≤ x b → links d bs x j ≡ links d bs y j
+    links_many many = kept (le-leb d (x b) many ∙ sym (le-leb d (y b) (omega (arith, more b, many))))
+
+    pub links_gained : b < length bs → d ≤ y b → links d bs y j ≡ (links d bs x j || has (holders_at bs b) j)
+    unfolding links
+    links_gained l wide =
+        some_more (length bs) _ _ b l (λ c ne. ap (λ v. leb d v && has (holders_at bs c) j) (sym (other c ne))) (λ t. and_from _ _ (le-leb d (y b) wide) (and_parts _ _ t).1)
+        ∙ ap (λ t. some_below (length bs) (λ c. leb d (x c) && has (holders_at bs c) j) || (t && has (holders_at bs b) j)) (le-leb d (y b) wide)
 
 -- the next batch, whose row passes the test or does not
 module _ (d b : ℕ) (bs : List Batch) (row : ℕ → ℕ) (j : ℕ) where
