@@ -112,8 +112,8 @@ impl Station {
         ensures holds_where_the_links_lead { (j : ℕ) → has result j ≡ links linking.entry.width linking.entry.batches.now (nth self.now.blocks) j }
     {
         let mut places = Places::empty();
-        for (blocks, batch) in self.blocks.iter().zip(linking.batches) {
-            if *blocks >= linking.width {
+        for (b, batch) in linking.batches.iter().enumerate() {
+            if self.blocks[b] >= linking.width {
                 places = places.union(batch.holders);
             }
         }
