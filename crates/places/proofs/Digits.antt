@@ -1,5 +1,5 @@
 -- The digits of words: of 0, of a power of two, of a union and a difference; that its digits determine a word; and which is the lowest.
-use Rattle.std.specs.Prelude.{Decides}
+use Rattle.std.specs.Prelude.{IsTrue, ◌↔◌}
 use Rattle.std.proofs.Common.{◌≡◌, ℕ, zero, suc, ◌+◌, ◌-◌, ◌/◌, ◌%◌, ◌^◌, ◌<◌, ◌≤◌, true, false, not, ◌&&◌, ◌||◌, eqb, sym, refl, ap, ◌∙◌, subst, ⊎_elim, mod-lt, add_comm, pow-suc, div-one, add-one, arith, pow_mono}
 use native.Mathlib.Nat.{zero-div, div-eq_of_lt, div_self}
 use lib.Bits.{bit_and, bit_or, bit_xor}
@@ -78,7 +78,7 @@ pub same_word : (a b : ℕ) → ((k : ℕ) → digit a k ≡ digit b k) → a �
 same_word a b same = same_within (a + b) a b (omega arith) (omega arith) same
 
 -- what `==` and `!=` compare tells whether two sets hold the same places
-pub same_places_decides : (a b : Places) → Decides (same_places a b) ((k : ℕ) → has a k ≡ has b k)
+pub same_places_decides : (a b : Places) → IsTrue (same_places a b) ↔ ((k : ℕ) → has a k ≡ has b k)
 unfolding has
 same_places_decides a b = ((λ same k. ap (λ (w : ℕ). digit w k) (eqb-true a.word b.word same)), (λ same. eq-eqb a.word b.word (same_word a.word b.word same)))
 

@@ -1,13 +1,17 @@
 // A set of machine places, as one word.
 //
 // A book's machines stand at the places 0 to 31 in ascending number. Every contract here says through `has`
-// which places a set holds; that of `==` says too what it compares.
+// which places a set holds; that of `==` says too what it compares, and those of an iteration in which order they come.
 #![tactic(auto)]
 
-ghost use Rattle.std.specs.Prelude.{◌≡◌, ℕ, false, not, ◌&&◌, ◌||◌, Decides, MatchOption, ◌==◌, nat_lt};
+ghost use Rattle.std.specs.Prelude.{◌≡◌, ℕ, false, not, ◌&&◌, ◌||◌, ◌↔◌, IsTrue, MatchOption, ◌==◌, nat_lt};
 ghost use Rattle.places.specs.Has.{has, same_places, size, Lowest};
 ghost use Rattle.std.specs.Cmp.Rules.{comparing};
 ghost use Rattle.std.proofs.Common.{rules};
+
+mod iter;
+
+pub use iter::Iter;
 
 #[derive(Clone, Copy, Debug)]
 pub struct Places {
@@ -15,6 +19,8 @@ pub struct Places {
 }
 
 impl Places {
+    ghost use Rattle.places.specs.Members.{members, left_in};
+
     // No place.
     pub fn empty() -> Places
         ensures holds_no_place { (k : ℕ) → has result k ≡ false }
@@ -69,7 +75,7 @@ impl Places {
 
     // Whether there is no place.
     pub fn is_empty(self) -> bool
-        ensures tells_whether_it_holds_no_place { Decides result ((k : ℕ) → has self k ≡ false) }
+        ensures tells_whether_it_holds_no_place { IsTrue result ↔ ((k : ℕ) → has self k ≡ false) }
     {
         self.first().is_none()
     }
@@ -84,6 +90,13 @@ impl Places {
         Some(self.word.trailing_zeros() as usize)
     }
 
+    // Goes through the places, from the lowest on.
+    pub fn iter(self) -> Iter
+        ensures goes_through_the_places_in_ascending_order { left_in result ≡ members self }
+    {
+        Iter { left: self }
+    }
+
     // Takes the lowest place out, if there is one.
     pub fn pop_first(&mut self) -> Option<usize>
         ensures gives_the_lowest_place { MatchOption result ((k : ℕ) → has self.old k ≡ false) (λ i. Lowest self.old i) }
@@ -95,6 +108,7 @@ impl Places {
     }
 }
 
+// By hand: a derived `==` would promise that the words are equal, and not that both hold the same places.
 impl PartialEq for Places {
     ghost eq = { same_places };
 
@@ -103,7 +117,7 @@ impl PartialEq for Places {
     // Whether both hold the same places.
     fn eq(&self, other: &Places) -> bool
         ensures answers_as_the_comparison_says { result ≡ same_places self.now other.now }
-        ensures tells_whether_both_hold_the_same_places { Decides result ((k : ℕ) → has self.now k ≡ has other.now k) }
+        ensures tells_whether_both_hold_the_same_places { IsTrue result ↔ ((k : ℕ) → has self.now k ≡ has other.now k) }
     {
         self.word == other.word
     }
