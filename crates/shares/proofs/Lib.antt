@@ -1,6 +1,7 @@
 mod Sizes
 pub mod Cut
 mod Reaching
+mod Stepping
 pub mod Facts
 mod Blocks
 mod Leading

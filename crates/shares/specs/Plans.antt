@@ -45,7 +45,7 @@ LatestPlan table p C i = Latest p.width (machines_at p) (values_in table p) (loa
 abbrev pub LevelPlan : ℕ → (Terms → ℕ → ℕ) → Plan → Type 0
 LevelPlan d table p = Level d (machines_at p) (demand_of p.book) (values_in table p) (share p) (load_at p)
 
-pub record Outreach (p : Plan) (C W S : ℕ → Bool) (i : ℕ) (before stage : ℕ → ℕ) : Type 0 where
+pub record Outreach (p : Plan) (C W S : ℕ → Bool) (i : ℕ) (before : ℕ → ℕ) : Type 0 where
   pub low : (q : ℕ) → W q ≡ true → q < machines_at p
   pub closed : ClosedBy p.width (machines_at p) (demand_of p.book) (share p) W
   pub has_exhausted : Within C W
@@ -53,4 +53,4 @@ pub record Outreach (p : Plan) (C W S : ℕ → Bool) (i : ℕ) (before stage : 
   pub rest : (q : ℕ) → W q ≡ true → C q ≡ false → S q ≡ true
   pub has_start : S i ≡ true
   pub apart : (q : ℕ) → C q ≡ true → S q ≡ false
-  pub chained : Chained (leads_to p.stations) i S before stage
+  pub chained : Chained (leads_to p.stations) i S before

@@ -64,7 +64,7 @@ impl Plan {
         requires not_exhausted { has exhausted i ≡ false }
         requires within_machines { (k : ℕ) → has exhausted k ≡ true → k < machines_at self.now }
         requires closed { ClosedBy self.now.width (machines_at self.now) (demand_of self.now.book) (share self.now) (has exhausted) }
-        ensures reaches_past_the_exhausted { Outreach self.now (has exhausted) (has result.0) (has result.1.places) i (nth result.1.before) (nth result.1.stages) }
+        ensures reaches_past_the_exhausted { Outreach self.now (has exhausted) (has result.0) (has result.1.places) i (nth result.1.before) }
     {
         let mut reach = Reach::of(&self.stations, exhausted.with(i));
         let all = reach.places;

@@ -47,7 +47,7 @@ impl Plan {
     // Moves blocks along the chain of the reach from the start to machine i: at most as many as wanted, and on each
     // link at most as many as its batch has there. It goes back from i to the start, and moves on the way out.
     pub(super) fn augment(&mut self, reach: &Reach, start: usize, i: usize, want: u32) -> u32
-        requires chained { Chained (leads_to self.old.stations) start (has reach.now.places) (nth reach.now.before) (nth reach.now.stages) }
+        requires chained { Chained (leads_to self.old.stations) start (has reach.now.places) (nth reach.now.before) }
         requires within_machines { (k : ℕ) → has reach.now.places k ≡ true → k < machines_at self.old }
         requires reached { has reach.now.places i ≡ true }
         ensures keeps_the_book { self.new.book ≡ self.old.book }
@@ -56,7 +56,7 @@ impl Plan {
         ensures moves_the_width_where_it_is_wanted { self.old.width ≤ want → self.old.width ≤ result }
         ensures carries_the_loads { Carried start i result (load_at self.old) (load_at self.new) }
         ensures keeps_what_lies_outside_the_reach { (b k : ℕ) → has reach.now.places k ≡ false → share self.new b k ≡ share self.old b k }
-        ensures takes_none_from_later_stages { (b k : ℕ) → nth reach.now.stages i ≤ nth reach.now.stages k → share self.old b k ≤ share self.new b k }
+        ensures takes_none_from_later_stages { (chain : Chained (leads_to self.old.stations) start (has reach.now.places) (nth reach.now.before)) → (b k : ℕ) → chain.stage i ≤ chain.stage k → share self.old b k ≤ share self.new b k }
     {
         if i == start {
             return want;

@@ -6,7 +6,7 @@ use Rattle.shares.proofs.Sizes.{size_without, without_within}
 use Rattle.shares.proofs.reach.Reach.note.Goals as goal
 
 pub loop-j-init : goal.loop-j-init
-loop-j-init c = (omega arith, omega arith, refl, (λ k e. e), noted_none (has c.args.new) _ _ _ _)
+loop-j-init c = (omega arith, refl, (λ k e. e), noted_none (has c.args.new) _ _)
 
 pub loop-j-smaller : goal.loop-j-smaller
 loop-j-smaller c =
@@ -20,8 +20,7 @@ loop-j-preserved c =
     let low = e.gives_the_lowest_place in
     let inv = c.loop-j.invariant in (
       length-set c.loop-j.self.before j _ ∙ inv.0,
-      length-set c.loop-j.self.stages j _ ∙ inv.1,
-      inv.2,
-      (λ k t. inv.3 k (without_within (has c.pop_first.new.self) (has c.loop-j.left) j e.takes_just_this_place k t)),
-      noted_more (has c.args.new) (has c.loop-j.left) (has c.pop_first.new.self) _ _ j c.loop-j.self.before c.loop-j.self.stages (omega (arith, inv.0, low.below)) (omega (arith, inv.1, low.below)) e.takes_just_this_place (inv.3 j low.held) inv.4,
+      inv.1,
+      (λ k t. inv.2 k (without_within (has c.pop_first.new.self) (has c.loop-j.left) j e.takes_just_this_place k t)),
+      noted_more (has c.args.new) (has c.loop-j.left) (has c.pop_first.new.self) _ j c.loop-j.self.before (omega (arith, inv.0, low.below)) e.takes_just_this_place (inv.2 j low.held) inv.3,
     )
