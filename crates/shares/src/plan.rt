@@ -13,6 +13,7 @@ use books::Book;
 
 mod level;
 mod moves;
+mod paced;
 mod read;
 mod settle;
 

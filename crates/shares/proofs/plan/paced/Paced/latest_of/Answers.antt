@@ -6,12 +6,12 @@ use Rattle.shares.specs.Marks.{value}
 use Rattle.shares.proofs.Ordering.{later_marks, not_later_marks}
 use Rattle.shares.proofs.Picking.{popped_less, first_in, seen_more}
 use Rattle.shares.proofs.Sizes.{without_within}
-use Rattle.shares.proofs.plan.Plan.latest_of.Goals as goal
+use Rattle.shares.proofs.plan.paced.Paced.latest_of.Goals as goal
 
 pub mark_back-mark-requires : goal.mark_back-mark-requires
 mark_back-mark-requires g c =
     let it = c.requires.laden c.args.first (first_in (has c.args.others) c.args.first) in
-    record { stands = it.0; there = (c.args.self.now.wide, it.1) }
+    record { stands = it.0; there = (c.args.self.plan.now.wide, it.1) }
 
 pub loop-i-smaller-then-is_before : goal.loop-i-smaller-then-is_before
 loop-i-smaller-then-is_before g c = let e = c.in-Some.ensures in popped_less _ _ _ e.gives_the_lowest_place e.takes_just_this_place
@@ -26,7 +26,7 @@ loop-i-preserved-then-is_before g c =
     let inv = c.loop-i.invariant in
     let one = or_left _ _ (inv.0 i e.gives_the_lowest_place.held) in
     let is = c.mark_back-other.ensures.gives_the_mark in
-    let past = later_marks c.args.self.now.book i c.loop-i.latest c.mark_back-other.result c.loop-i.mark (c.requires.laden i one).0 (c.requires.laden c.loop-i.latest inv.1).0 (ap (λ (a : Mark). a.number) is)
+    let past = later_marks c.args.self.plan.now.book i c.loop-i.latest c.mark_back-other.result c.loop-i.mark (c.requires.laden i one).0 (c.requires.laden c.loop-i.latest inv.1).0 (ap (λ (a : Mark). a.number) is)
     (ap (λ (a : Mark). a.number) inv.2) (sym c.if-is_before.ensures.tells_whether_the_other_is_after) in (
       (λ k t. inv.0 k (without_within _ _ i e.takes_just_this_place k t)),
       one,
@@ -41,7 +41,7 @@ loop-i-preserved g c =
     let inv = c.loop-i.invariant in
     let one = or_left _ _ (inv.0 i e.gives_the_lowest_place.held) in
     let is = c.mark_back-other.ensures.gives_the_mark in
-    let past = not_later_marks c.args.self.now.book i c.loop-i.latest c.mark_back-other.result c.loop-i.mark (c.requires.laden i one).0 (c.requires.laden c.loop-i.latest inv.1).0 (ap (λ (a : Mark). a.number) is)
+    let past = not_later_marks c.args.self.plan.now.book i c.loop-i.latest c.mark_back-other.result c.loop-i.mark (c.requires.laden i one).0 (c.requires.laden c.loop-i.latest inv.1).0 (ap (λ (a : Mark). a.number) is)
     (ap (λ (a : Mark). a.number) inv.2) (sym c.if-is_before.ensures.tells_whether_the_other_is_after) in (
       (λ k t. inv.0 k (without_within _ _ i e.takes_just_this_place k t)),
       inv.1,

@@ -6,7 +6,7 @@ use Rattle.shares.specs.Marks.{value}
 use Rattle.shares.proofs.Ordering.{later_marks, not_later_marks}
 use Rattle.shares.proofs.Picking.{popped_less, first_in, seen_more}
 use Rattle.shares.proofs.Sizes.{without_within}
-use Rattle.shares.proofs.plan.Plan.earliest_of.Goals as goal
+use Rattle.shares.proofs.plan.paced.Paced.earliest_of.Goals as goal
 
 pub mark_after-mark-requires : goal.mark_after-mark-requires
 mark_after-mark-requires g c =
@@ -25,7 +25,7 @@ loop-j-preserved-then-is_before g c =
     let inv = c.loop-j.invariant in
     let one = or_left _ _ (inv.0 j e.gives_the_lowest_place.held) in
     let is = c.mark_after-other.ensures.gives_the_mark in
-    let past = later_marks c.args.self.now.book c.loop-j.earliest j c.loop-j.mark c.mark_after-other.result (c.requires.stand c.loop-j.earliest inv.1) (c.requires.stand j one) (ap (λ (a : Mark). a.number) inv.2)
+    let past = later_marks c.args.self.plan.now.book c.loop-j.earliest j c.loop-j.mark c.mark_after-other.result (c.requires.stand c.loop-j.earliest inv.1) (c.requires.stand j one) (ap (λ (a : Mark). a.number) inv.2)
     (ap (λ (a : Mark). a.number) is) (sym c.if-is_before.ensures.tells_whether_the_other_is_after) in (
       (λ k t. inv.0 k (without_within _ _ j e.takes_just_this_place k t)),
       one,
@@ -40,7 +40,7 @@ loop-j-preserved g c =
     let inv = c.loop-j.invariant in
     let one = or_left _ _ (inv.0 j e.gives_the_lowest_place.held) in
     let is = c.mark_after-other.ensures.gives_the_mark in
-    let past = not_later_marks c.args.self.now.book c.loop-j.earliest j c.loop-j.mark c.mark_after-other.result (c.requires.stand c.loop-j.earliest inv.1) (c.requires.stand j one) (ap (λ (a : Mark). a.number) inv.2)
+    let past = not_later_marks c.args.self.plan.now.book c.loop-j.earliest j c.loop-j.mark c.mark_after-other.result (c.requires.stand c.loop-j.earliest inv.1) (c.requires.stand j one) (ap (λ (a : Mark). a.number) inv.2)
     (ap (λ (a : Mark). a.number) is) (sym c.if-is_before.ensures.tells_whether_the_other_is_after) in (
       (λ k t. inv.0 k (without_within _ _ j e.takes_just_this_place k t)),
       inv.1,
