@@ -24,8 +24,18 @@ impl<'a, P: Pace> Paced<'a, P> {
         ensures finds_the_latest { IfSome result (λ i. LatestPlan (P.Pace.table self.entry.pace.now) self.entry.plan.now (has exhausted) i) }
     {
         let width = self.plan.width;
-        let left = self.plan.laden().minus(exhausted);
-        left.iter().max_by_key(|&i| self.mark_back(i, width))
+        let mut left = self.plan.laden().minus(exhausted).iter();
+        let mut latest = left.next()?;
+        let mut mark = self.mark_back(latest, width);
+        // a loop, since max_by_key over the order of marks misses the bar of speed
+        for i in left {
+            let other = self.mark_back(i, width);
+            if mark.is_before(other) {
+                latest = i;
+                mark = other;
+            }
+        }
+        Some(latest)
     }
 
     // To which of the given machines a chain from machine i helps, and the most blocks that it helps to move.
@@ -54,7 +64,18 @@ impl<'a, P: Pace> Paced<'a, P> {
         ensures finds_the_earliest { IfSome result (λ j. (k : ℕ) → has among k ≡ true → values_in (P.Pace.table self.entry.pace.now) self.entry.plan.now j (load_at self.entry.plan.now j + self.entry.plan.now.width) ≤ values_in (P.Pace.table self.entry.pace.now) self.entry.plan.now k (load_at self.entry.plan.now k + self.entry.plan.now.width)) }
     {
         let width = self.plan.width;
-        among.iter().min_by_key(|&j| self.mark_after(j, width))
+        let mut left = among.iter();
+        let mut earliest = left.next()?;
+        let mut mark = self.mark_after(earliest, width);
+        // a loop, since min_by_key over the order of marks misses the bar of speed
+        for j in left {
+            let other = self.mark_after(j, width);
+            if other.is_before(mark) {
+                earliest = j;
+                mark = other;
+            }
+        }
+        Some(earliest)
     }
 
     // Whether machine j ends its next blocks before machine i ends the first of its last so many.

@@ -1,35 +1,82 @@
-use Rattle.std.proofs.Common.{◌+◌, ◌-◌, ◌≤◌, arith, rules}
-use Rattle.std.specs.Ordering.{max_by_ordering, is_gt}
-use Rattle.books.specs.Views.{machines_in}
-use Rattle.shares.specs.Marks.{machine_at, mark_of}
+use Rattle.std.proofs.Common.{◌+◌, ◌-◌, ◌≤◌, [], ◌∷◌, sym, ap, arith}
+use Rattle.std.proofs.lemmas.List.Elements.{All-nil, All-cons, All-push, All-weaker}
+use Rattle.shares.specs.declared.mark.Mark.{Mark}
+use Rattle.shares.specs.Marks.{value}
 use Rattle.shares.specs.Plans.{machines_at, load_at, values_in}
-use Rattle.shares.proofs.Facts.{few_machines, number_small}
-use Rattle.shares.proofs.Choosing.{callable, chosen, chosen_more}
-use Rattle.shares.proofs.Ordering.{mark_cmp, not_greater_value}
+use Rattle.shares.proofs.Choosing.{none_held, first_held, next_held, all_came}
+use Rattle.shares.proofs.Facts.{few_machines}
+use Rattle.shares.proofs.Ordering.{later_marks, not_later_marks}
 use Rattle.shares.proofs.Picking.{is_left, left_so, none_left}
 use Rattle.shares.proofs.plan.paced.Paced.latest.Goals as goal
 
-pub max_by_key-requires-clause-callable : goal.max_by_key-requires-clause-callable
-max_by_key-requires-clause-callable g c =
+pub returns-in_err-latest-clause-finds_a_machine_that_is_not_exhausted : goal.returns-in_err-latest-clause-finds_a_machine_that_is_not_exhausted
+returns-in_err-latest-clause-finds_a_machine_that_is_not_exhausted g c =
+    let left = is_left c.minus.result c.laden.result c.args.exhausted (machines_at c.args.self.plan.now) c.args.self.plan.now.width (load_at c.args.self.plan.now) c.laden.ensures.holds_machines_with_enough_blocks c.minus.ensures.holds_the_places_that_the_other_does_not in
+    rw c.from_residual.ensures (none_left c.minus.result c.laden.result c.args.exhausted (machines_at c.args.self.plan.now) c.args.self.plan.now.width (load_at c.args.self.plan.now) c.laden.ensures.holds_machines_with_enough_blocks c.minus.ensures.holds_the_places_that_the_other_does_not (λ k. none_held c.minus.result c.iter-left.result c.iter-left.ensures.goes_through_the_places_in_ascending_order c.next.result c.next.new.self c.in_err-latest.was c.next.ensures.steps k
+    (λ held. omega (arith, (left k held).0, few_machines c.args.self.plan.now.book))))
+
+pub mark_back-mark-requires : goal.mark_back-mark-requires
+mark_back-mark-requires g c =
+    let left = is_left c.minus.result c.laden.result c.args.exhausted (machines_at c.args.self.plan.now) c.args.self.plan.now.width (load_at c.args.self.plan.now) c.laden.ensures.holds_machines_with_enough_blocks c.minus.ensures.holds_the_places_that_the_other_does_not in
+    let first = first_held c.minus.result c.iter-left.result c.iter-left.ensures.goes_through_the_places_in_ascending_order c.in_ok-latest.latest c.next.new.self c.in_ok-latest.ensures.steps in
+    let at = left c.in_ok-latest.latest first in record { stands = at.0; there = (c.args.self.plan.now.wide, at.1) }
+
+pub loop-i-init : goal.loop-i-init
+loop-i-init g c =
     let p = c.args.self.plan.now in
-    let left = is_left c.minus-left.result c.laden.result c.args.exhausted (machines_at p) p.width (load_at p) c.laden.ensures.holds_machines_with_enough_blocks c.minus-left.ensures.holds_the_places_that_the_other_does_not in
-    callable max_by_ordering max_by_ordering _ _ c.minus-left.result c.iter.result _ c.iter.ensures.goes_through_the_places_in_ascending_order
-    (λ x held y e _ _ _ _ _ _ _ _ _. let at-x = left x held in rw e (at-x.0, (p.wide, at-x.1))) (λ x k h q. search rules)
+    let left = is_left c.minus.result c.laden.result c.args.exhausted (machines_at c.args.self.plan.now) c.args.self.plan.now.width (load_at c.args.self.plan.now) c.laden.ensures.holds_machines_with_enough_blocks c.minus.ensures.holds_the_places_that_the_other_does_not in
+    let first = c.in_ok-latest.latest in
+    let held = first_held c.minus.result c.iter-left.result c.iter-left.ensures.goes_through_the_places_in_ascending_order first c.next.new.self c.in_ok-latest.ensures.steps in
+    let is = c.mark_back-mark.ensures.gives_the_mark in
+    (left first held, is, All-cons (λ k. values_in (g.P.Pace.table c.args.self.pace.now) p k (load_at p k - p.width + 1) ≤ value c.mark_back-mark.result) first [] (omega (arith, ap value is)) (All-nil _))
+
+pub mark_back-other-requires : goal.mark_back-other-requires
+mark_back-other-requires g c =
+    let left = is_left c.minus.result c.laden.result c.args.exhausted (machines_at c.args.self.plan.now) c.args.self.plan.now.width (load_at c.args.self.plan.now) c.laden.ensures.holds_machines_with_enough_blocks c.minus.ensures.holds_the_places_that_the_other_does_not in
+    let held = next_held c.minus.result c.iter-left.result c.iter-left.ensures.goes_through_the_places_in_ascending_order c.in_ok-latest.latest c.next.new.self c.into_iter-i-iterator.result
+    c.in_ok-latest.ensures.steps c.into_iter-i-iterator.ensures.into_iter_gives c.loop-i.yielded c.loop-i.i-iterator c.in-Some.i c.next-in-loop-i.new.self c.loop-i.yielded_by c.in-Some.ensures.steps in
+    let at = left c.in-Some.i held in record { stands = at.0; there = (c.args.self.plan.now.wide, at.1) }
+
+pub loop-i-preserved-then-is_before : goal.loop-i-preserved-then-is_before
+loop-i-preserved-then-is_before g c =
+    let p = c.args.self.plan.now in
+    let left = is_left c.minus.result c.laden.result c.args.exhausted (machines_at c.args.self.plan.now) c.args.self.plan.now.width (load_at c.args.self.plan.now) c.laden.ensures.holds_machines_with_enough_blocks c.minus.ensures.holds_the_places_that_the_other_does_not in
+    let inv = c.loop-i.invariant in
+    let held = next_held c.minus.result c.iter-left.result c.iter-left.ensures.goes_through_the_places_in_ascending_order c.in_ok-latest.latest c.next.new.self c.into_iter-i-iterator.result
+    c.in_ok-latest.ensures.steps c.into_iter-i-iterator.ensures.into_iter_gives c.loop-i.yielded c.loop-i.i-iterator c.in-Some.i c.next-in-loop-i.new.self c.loop-i.yielded_by c.in-Some.ensures.steps in
+    let is = c.mark_back-other.ensures.gives_the_mark in
+    let past = later_marks p.book c.in-Some.i c.loop-i.latest c.mark_back-other.result c.loop-i.mark (left c.in-Some.i held).0 inv.0.0
+    (ap (λ (a : Mark). a.number) is) (ap (λ (a : Mark). a.number) inv.1) (sym c.if-is_before.ensures.tells_whether_the_other_is_after) in (
+      left c.in-Some.i held,
+      is,
+      All-push (λ k. values_in (g.P.Pace.table c.args.self.pace.now) p k (load_at p k - p.width + 1) ≤ value c.mark_back-other.result) (c.in_ok-latest.latest ∷ c.loop-i.yielded) c.in-Some.i
+          (All-weaker (λ k. values_in (g.P.Pace.table c.args.self.pace.now) p k (load_at p k - p.width + 1) ≤ value c.loop-i.mark) (λ k. values_in (g.P.Pace.table c.args.self.pace.now) p k (load_at p k - p.width + 1) ≤ value c.mark_back-other.result) (λ k h. omega (arith, h, past)) (c.in_ok-latest.latest ∷ c.loop-i.yielded) inv.2) (omega (arith, ap value is)),
+    )
+
+pub loop-i-preserved : goal.loop-i-preserved
+loop-i-preserved g c =
+    let p = c.args.self.plan.now in
+    let left = is_left c.minus.result c.laden.result c.args.exhausted (machines_at c.args.self.plan.now) c.args.self.plan.now.width (load_at c.args.self.plan.now) c.laden.ensures.holds_machines_with_enough_blocks c.minus.ensures.holds_the_places_that_the_other_does_not in
+    let inv = c.loop-i.invariant in
+    let held = next_held c.minus.result c.iter-left.result c.iter-left.ensures.goes_through_the_places_in_ascending_order c.in_ok-latest.latest c.next.new.self c.into_iter-i-iterator.result
+    c.in_ok-latest.ensures.steps c.into_iter-i-iterator.ensures.into_iter_gives c.loop-i.yielded c.loop-i.i-iterator c.in-Some.i c.next-in-loop-i.new.self c.loop-i.yielded_by c.in-Some.ensures.steps in
+    let is = c.mark_back-other.ensures.gives_the_mark in
+    let past = not_later_marks p.book c.in-Some.i c.loop-i.latest c.mark_back-other.result c.loop-i.mark (left c.in-Some.i held).0 inv.0.0
+    (ap (λ (a : Mark). a.number) is) (ap (λ (a : Mark). a.number) inv.1) (sym c.if-is_before.ensures.tells_whether_the_other_is_after) in
+    (inv.0, inv.1, All-push (λ k. values_in (g.P.Pace.table c.args.self.pace.now) p k (load_at p k - p.width + 1) ≤ value c.loop-i.mark) (c.in_ok-latest.latest ∷ c.loop-i.yielded) c.in-Some.i inv.2 (omega (arith, ap value is, past)))
 
 pub returns : goal.returns
 returns g c =
     let p = c.args.self.plan.now in
-    let table = g.P.Pace.table c.args.self.pace.now in
-    let set = c.minus-left.result in
-    let enough = c.laden.ensures.holds_machines_with_enough_blocks in
-    let less = c.minus-left.ensures.holds_the_places_that_the_other_does_not in
-    let left = is_left set c.laden.result c.args.exhausted (machines_at p) p.width (load_at p) enough less in
-    let best = chosen _ _ is_gt mark_cmp (λ k. mark_of table (machine_at (machines_in p.book) k) (load_at p k - p.width + 1))
-    (λ m k. values_in table p k (load_at p k - p.width + 1) ≤ values_in table p m (load_at p m - p.width + 1))
-    set (λ k held. omega (arith, (left k held).0, few_machines p.book)) c.iter.result c.iter.ensures.goes_through_the_places_in_ascending_order
-    (λ a r h q. search rules) (λ x k h q. search rules)
-    (λ m k m-held k-held e. not_greater_value _ _ (number_small p.book k (left k k-held).0) (number_small p.book m (left m m-held).0) e) c.max_by_key.result c.max_by_key.ensures.runs in
+    let left = is_left c.minus.result c.laden.result c.args.exhausted (machines_at c.args.self.plan.now) c.args.self.plan.now.width (load_at c.args.self.plan.now) c.laden.ensures.holds_machines_with_enough_blocks c.minus.ensures.holds_the_places_that_the_other_does_not in
+    let inv = c.loop-i.invariant in
+    let each = all_came c.minus.result c.iter-left.result c.iter-left.ensures.goes_through_the_places_in_ascending_order c.in_ok-latest.latest c.next.new.self c.into_iter-i-iterator.result
+    c.in_ok-latest.ensures.steps c.into_iter-i-iterator.ensures.into_iter_gives
+    (λ k. values_in (g.P.Pace.table c.args.self.pace.now) p k (load_at p k - p.width + 1) ≤ value c.loop-i.mark) c.loop-i.yielded c.loop-i.i-iterator c.next-in-loop-i.result
+    c.next-in-loop-i.new.self c.loop-i.yielded_by c.in-None.is c.next-in-loop-i.ensures.steps inv.2 in
     record {
-      finds_a_machine_that_is_not_exhausted = chosen_more c.max_by_key.result best.0 (none_left set c.laden.result c.args.exhausted (machines_at p) p.width (load_at p) enough less) left;
-      finds_the_latest = chosen_more c.max_by_key.result best.1 (λ u. u) (λ m so k here many out. so k (left_so set c.laden.result c.args.exhausted (machines_at p) p.width (load_at p) enough less k here many out));
+      finds_a_machine_that_is_not_exhausted = inv.0;
+      finds_the_latest = λ k here many out.
+          let held = left_so c.minus.result c.laden.result c.args.exhausted (machines_at c.args.self.plan.now) c.args.self.plan.now.width (load_at c.args.self.plan.now) c.laden.ensures.holds_machines_with_enough_blocks c.minus.ensures.holds_the_places_that_the_other_does_not k here many out in
+          omega (arith, each k held (omega (arith, here, few_machines p.book)), ap value inv.1);
     }
