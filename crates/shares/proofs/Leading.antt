@@ -1,5 +1,5 @@
 -- Where the links of a machine lead, as its blocks come and go.
-use Rattle.std.proofs.Common.{◌≡◌, ℕ, zero, suc, ◌+◌, ◌<◌, ◌≤◌, Bool, true, false, ◌&&◌, ◌||◌, eqb, leb, List, length, sym, refl, ap, ◌∙◌, inl, inr, add-one, arith}
+use Rattle.std.proofs.Common.{◌≡◌, ℕ, zero, suc, ◌+◌, ◌<◌, ◌≤◌, Bool, true, false, ◌&&◌, ◌||◌, eqb, leb, List, length, sym, refl, ap, ◌∙◌, inl, inr, arith}
 use Rattle.std.proofs.lemmas.Bool.{cases_Bool, cases_eq, and_parts, and_from, le-leb, lt-leb, leb-true}
 use Rattle.places.specs.Has.{has}
 use Rattle.books.specs.declared.batch.Batch.{Batch}
@@ -78,16 +78,3 @@ module _ (d : ℕ) (bs : List Batch) (j : ℕ) where
     links_gained l wide =
         some_more (length bs) _ _ b l (λ c ne. ap (λ v. leb d v && has (holders_at bs c) j) (sym (other c ne))) (λ t. and_from _ _ (le-leb d (y b) wide) (and_parts _ _ t).1)
         ∙ ap (λ t. some_below (length bs) (λ c. leb d (x c) && has (holders_at bs c) j) || (t && has (holders_at bs b) j)) (le-leb d (y b) wide)
-
--- the next batch, whose row passes the test or does not
-module _ (d b : ℕ) (bs : List Batch) (row : ℕ → ℕ) (j : ℕ) where
-  pub led_more : (S T : ℕ → Bool) → d ≤ row b → ((k : ℕ) → T k ≡ (S k || has (holders_at bs b) k))
-      → S j ≡ some_below b (λ c. leb d (row c) && has (holders_at bs c) j) → T j ≡ some_below (b + 1) (λ c. leb d (row c) && has (holders_at bs c) j)
-  led_more S T wide more led = rw add-one (rw (le-leb d (row b) wide) (more j ∙ ap (λ t. t || has (holders_at bs b) j) led ∙ swap (some_below b (λ c. leb d (row c) && has (holders_at bs c) j)) (has (holders_at bs b) j)))
-    where
-      swap : (s t : Bool) → (s || t) ≡ (t || s)
-      swap s t = grind arith
-
-  pub led_same : (S : ℕ → Bool) → row b < d
-      → S j ≡ some_below b (λ c. leb d (row c) && has (holders_at bs c) j) → S j ≡ some_below (b + 1) (λ c. leb d (row c) && has (holders_at bs c) j)
-  led_same S narrow led = rw add-one (rw (lt-leb d (row b) narrow) led)

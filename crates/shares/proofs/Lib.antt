@@ -9,7 +9,6 @@ mod Shifting
 pub mod Planned
 pub mod Ordering
 mod Picking
-mod Choosing
 pub mod Exhausting
 mod Outreaching
 mod Placing

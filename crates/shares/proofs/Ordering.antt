@@ -1,9 +1,6 @@
 -- The order of marks is the order of their values, and the marks of a book's machines are ordered as share-outs want it.
-use Rattle.std.proofs.Common.{◌≡◌, ℕ, suc, ◌<◌, ◌≤◌, true, false, ◌&&◌, eqb, ltb, length, refl, inl, inr, arith}
-use Rattle.std.proofs.lemmas.Bool.{cases_order, cases_lt, both_ways, or_cases, or_parts, and_parts, and_from, ltb-true, ltb-false, lt-ltb, le-ltb, eqb-true, eq-eqb, ne_eqb}
-use Rattle.std.specs.declared.cmp.Ordering.{Ordering}
-use Rattle.std.specs.declared.cmp.Ordering.TheVariants.{Less, Equal, Greater}
-use Rattle.std.specs.Ordering.{nat_cmp, ordering_then, is_lt, is_gt}
+use Rattle.std.proofs.Common.{◌≡◌, ℕ, suc, ◌<◌, ◌≤◌, true, false, ◌&&◌, eqb, ltb, length, inl, inr, arith}
+use Rattle.std.proofs.lemmas.Bool.{cases_order, cases_lt, both_ways, or_cases, or_parts, and_parts, and_from, ltb-true, ltb-false, lt-ltb, eqb-true, eq-eqb}
 use Rattle.pace.specs.declared.terms.Terms.{Terms}
 use Rattle.pace.specs.Moments.{Fit}
 use Rattle.theory.specs.ShareOuts.{Order}
@@ -32,40 +29,6 @@ module _ (a b : Mark) (la : a.number < 10000) (lb : b.number < 10000) where
             let less : b.number < a.number = omega arith in
             absurd (both_ways _ r.1 (and_from _ _ (eq-eqb b.moment a.moment same) (lt-ltb b.number a.number less)))
       ]
-
-less_cmp : (x y : ℕ) → x < y → nat_cmp x y ≡ Less
-less_cmp x y l = rw (lt-ltb x y l) refl
-
-same_cmp : (x y : ℕ) → x ≡ y → nat_cmp x y ≡ Equal
-same_cmp x y e = rw (le-ltb x y (omega arith), eq-eqb x y e) refl
-
-more_cmp : (x y : ℕ) → y < x → nat_cmp x y ≡ Greater
-more_cmp x y l = rw (le-ltb x y (omega arith), ne_eqb x y (omega arith)) refl
-
--- what `cmp` answers at marks
-abbrev pub mark_cmp : Mark → Mark → Ordering
-mark_cmp a b = ordering_then (nat_cmp a.moment b.moment) (nat_cmp a.number b.number)
-
-module _ (a b : Mark) (la : a.number < 10000) (lb : b.number < 10000) where
-  pub not_less_value : is_lt (mark_cmp a b) ≡ false → value b ≤ value a
-  not_less_value e = elim (cases_order a.moment b.moment) [
-    | inl s ↦ elim (cases_lt a.number b.number) [
-      | inl l ↦ absurd (both_ways _ e (rw (same_cmp a.moment b.moment s, less_cmp a.number b.number l) refl))
-      | inr l ↦ omega arith
-    ]
-    | inr (inl l) ↦ absurd (both_ways _ e (rw (less_cmp a.moment b.moment l) refl))
-    | inr (inr g) ↦ omega arith
-  ]
-
-  pub not_greater_value : is_gt (mark_cmp a b) ≡ false → value a ≤ value b
-  not_greater_value e = elim (cases_order a.moment b.moment) [
-    | inl s ↦ elim (cases_lt b.number a.number) [
-      | inl l ↦ absurd (both_ways _ e (rw (same_cmp a.moment b.moment s, more_cmp a.number b.number l) refl))
-      | inr l ↦ omega arith
-    ]
-    | inr (inl l) ↦ omega arith
-    | inr (inr g) ↦ absurd (both_ways _ e (rw (more_cmp a.moment b.moment g) refl))
-  ]
 
 -- marks of a book's machines
 module _ (k : Book) (i j : ℕ) (a b : Mark) (li : i < length (machines_in k)) (lj : j < length (machines_in k))

@@ -1,6 +1,6 @@
 -- Going through a set of places, one after the other, for the best of them.
-use Rattle.std.proofs.Common.{◌≡◌, ℕ, ◌+◌, ◌<◌, ◌≤◌, Bool, true, false, not, ◌&&◌, ◌||◌, eqb, ltb, leb, sym, refl, ap, ◌∙◌, inl, inr, arith}
-use Rattle.std.proofs.lemmas.Bool.{cases_Bool, cases_eq, both_ways, eq-eqb, ne_eqb, eqb-true, lt-ltb, ltb-true, le-leb, leb-true, and_parts, not-true, or_cases, or_right}
+use Rattle.std.proofs.Common.{◌≡◌, ℕ, ◌+◌, ◌<◌, Bool, true, false, not, ◌&&◌, ◌||◌, eqb, ltb, sym, refl, ap, ◌∙◌, inl, inr, arith}
+use Rattle.std.proofs.lemmas.Bool.{cases_eq, eq-eqb, ne_eqb, lt-ltb, or_right}
 use Rattle.std.proofs.lemmas.Bool.Decides.{nat_tests}
 use Rattle.places.specs.declared.Places.{Places}
 use Rattle.places.specs.Has.{has, size, Lowest}
@@ -45,21 +45,3 @@ module _ (S T : ℕ → Bool) (n : ℕ) (p : ℕ → Bool) (so_far : (k : ℕ) �
     where
       none : (a b : Bool) → (a && false) ≡ (b && false)
       none a b = grind arith
-
--- the first is one of them
-pub one_of : (S : ℕ → Bool) (i q : ℕ) → S i ≡ true → (S q || eqb q i) ≡ true → S q ≡ true
-one_of S i q si e = elim (or_cases (S q) (eqb q i) e) [ inl t ↦ t | inr t ↦ rw (eqb-true q i t) si ]
-
--- what is left of the machines that have blocks enough, without those that are gone
-module _ (set laden gone : Places) (n d : ℕ) (l : ℕ → ℕ) (enough : (k : ℕ) → has laden k ≡ (ltb k n && leb d (l k))) (less : (k : ℕ) → has set k ≡ (has laden k && not (has gone k))) where
-  pub is_left : (k : ℕ) → has set k ≡ true → (k < n) × (d ≤ l k) × (has gone k ≡ false)
-  is_left k e =
-      let both = and_parts (has laden k) (not (has gone k)) (sym (less k) ∙ e) in
-      let in-it = and_parts (ltb k n) (leb d (l k)) (sym (enough k) ∙ both.0) in
-      (ltb-true k n in-it.0, leb-true d (l k) in-it.1, not-true (has gone k) both.1)
-
-  pub left_so : (k : ℕ) → k < n → d ≤ l k → has gone k ≡ false → has set k ≡ true
-  left_so k here many out = less k ∙ rw (enough k, lt-ltb k n here, le-leb d (l k) many, out) refl
-
-  pub none_left : ((k : ℕ) → has set k ≡ false) → (k : ℕ) → k < n → d ≤ l k → has gone k ≡ true
-  none_left none k here many = elim (cases_Bool (has gone k)) [ inl t ↦ t | inr f ↦ absurd (both_ways (has set k) (none k) (left_so k here many f)) ]

@@ -35,13 +35,3 @@ module _ (p : Plan) where
 
   pub share_within : (b i : ℕ) → b < batches_at p → share p b i ≤ load_at p i
   share_within b i l = omega (arith, load_sum i, term_le (batches_at p) (λ c. share p c i) b l)
-
-  pub two_shares : (b i j : ℕ) → b < batches_at p → i < machines_at p → j < machines_at p → (i ≡ j → ⊥)
-      → share p b i + share p b j ≤ 1000000
-  two_shares b i j l li lj ne = omega (
-    arith,
-    by_rows,
-    p.book.limited,
-    term_le (batches_at p) (λ c. total (machines_at p) (share p c)) b l,
-    two_le (machines_at p) (share p b) i j li lj ne,
-  )

@@ -23,19 +23,31 @@ impl<'a, P: Pace> Paced<'a, P> {
         ensures finds_a_machine_that_is_not_exhausted { MatchOption result ((i : ℕ) → i < machines_at self.entry.plan.now → self.entry.plan.now.width ≤ load_at self.entry.plan.now i → has exhausted i ≡ true) (λ i. (i < machines_at self.entry.plan.now) × (self.entry.plan.now.width ≤ load_at self.entry.plan.now i) × (has exhausted i ≡ false)) }
         ensures finds_the_latest { IfSome result (λ i. LatestPlan (P.Pace.table self.entry.pace.now) self.entry.plan.now (has exhausted) i) }
     {
+        // no chain by max_by_key over the order of marks, nor a loop over `iter`: each misses the bar of speed
+        let mut left = self.plan.laden().minus(exhausted);
+        let first = left.pop_first()?;
+        Some(self.latest_of(left, first))
+    }
+
+    // Of the given machines and the first one, all laden, the one whose first of its last `width` blocks has the
+    // latest mark.
+    fn latest_of(self, others: Places, first: usize) -> usize
+        requires laden { (k : ℕ) → (has others k || k == first) ≡ true → (k < machines_at self.plan.now) × (self.plan.now.width ≤ load_at self.plan.now k) }
+        ensures finds_one_of_them { (has others result || result == first) ≡ true }
+        ensures finds_the_latest { (k : ℕ) → (has others k || k == first) ≡ true → values_in (P.Pace.table self.entry.pace.now) self.entry.plan.now k (load_at self.entry.plan.now k - self.entry.plan.now.width + 1) ≤ values_in (P.Pace.table self.entry.pace.now) self.entry.plan.now result (load_at self.entry.plan.now result - self.entry.plan.now.width + 1) }
+    {
         let width = self.plan.width;
-        let mut left = self.plan.laden().minus(exhausted).iter();
-        let mut latest = left.next()?;
-        let mut mark = self.mark_back(latest, width);
-        // a loop, since max_by_key over the order of marks misses the bar of speed
-        for i in left {
+        let mut left = others;
+        let mut latest = first;
+        let mut mark = self.mark_back(first, width);
+        while let Some(i) = left.pop_first() {
             let other = self.mark_back(i, width);
             if mark.is_before(other) {
                 latest = i;
                 mark = other;
             }
         }
-        Some(latest)
+        latest
     }
 
     // To which of the given machines a chain from machine i helps, and the most blocks that it helps to move.
@@ -63,19 +75,31 @@ impl<'a, P: Pace> Paced<'a, P> {
         ensures finds_one_of_them { MatchOption result ((k : ℕ) → has among k ≡ false) (λ j. has among j ≡ true) }
         ensures finds_the_earliest { IfSome result (λ j. (k : ℕ) → has among k ≡ true → values_in (P.Pace.table self.entry.pace.now) self.entry.plan.now j (load_at self.entry.plan.now j + self.entry.plan.now.width) ≤ values_in (P.Pace.table self.entry.pace.now) self.entry.plan.now k (load_at self.entry.plan.now k + self.entry.plan.now.width)) }
     {
+        // as in `latest`: min_by_key misses the bar of speed
+        let mut left = among;
+        let first = left.pop_first()?;
+        Some(self.earliest_of(left, first))
+    }
+
+    // Of the given machines and the first one, the one that would end `width` blocks more at the earliest mark.
+    fn earliest_of(self, others: Places, first: usize) -> usize
+        requires stand { (k : ℕ) → (has others k || k == first) ≡ true → k < machines_at self.plan.now }
+        requires few { self.plan.now.width ≤ 1000000 }
+        ensures finds_one_of_them { (has others result || result == first) ≡ true }
+        ensures finds_the_earliest { (k : ℕ) → (has others k || k == first) ≡ true → values_in (P.Pace.table self.entry.pace.now) self.entry.plan.now result (load_at self.entry.plan.now result + self.entry.plan.now.width) ≤ values_in (P.Pace.table self.entry.pace.now) self.entry.plan.now k (load_at self.entry.plan.now k + self.entry.plan.now.width) }
+    {
         let width = self.plan.width;
-        let mut left = among.iter();
-        let mut earliest = left.next()?;
-        let mut mark = self.mark_after(earliest, width);
-        // a loop, since min_by_key over the order of marks misses the bar of speed
-        for j in left {
+        let mut left = others;
+        let mut earliest = first;
+        let mut mark = self.mark_after(first, width);
+        while let Some(j) = left.pop_first() {
             let other = self.mark_after(j, width);
             if other.is_before(mark) {
                 earliest = j;
                 mark = other;
             }
         }
-        Some(earliest)
+        earliest
     }
 
     // Whether machine j ends its next blocks before machine i ends the first of its last so many.
