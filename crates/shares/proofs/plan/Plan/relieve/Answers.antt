@@ -11,11 +11,6 @@ use Rattle.shares.proofs.Sizes.{size_lt}
 use Rattle.shares.proofs.Exhausting.{exhausted_more, exhausted_moved, exhausted_same}
 use Rattle.shares.proofs.plan.Plan.relieve.Goals as goal
 
-pub relief-requires : goal.relief-requires
-relief-requires g c =
-    let o = c.reach_past.ensures.reaches_past_the_exhausted in
-    rw c.paced.ensures.reads_the_plan record { stands = c.requires.stands; laden = c.requires.laden; stand = λ q e. o.low q (o.parts q e).0 }
-
 pub returns-in_default-clause-exhausts_more_or_keeps_them_exhausted :
     goal.returns-in_default-clause-exhausts_more_or_keeps_them_exhausted
 returns-in_default-clause-exhausts_more_or_keeps_them_exhausted g c =

@@ -1,4 +1,4 @@
-use Rattle.std.proofs.Common.{◌<◌, length, refl, ap, sym, ◌∙◌, arith}
+use Rattle.std.proofs.Common.{◌<◌, length, ap, sym, ◌∙◌, arith}
 use Rattle.std.proofs.lemmas.List.{length-set, get_or-set_other}
 use Rattle.places.specs.Has.{has}
 use Rattle.theory.proofs.Moves.{moved_row}
@@ -8,7 +8,7 @@ use Rattle.shares.specs.declared.station.Station.{Station}
 use Rattle.shares.proofs.Facts.{few_machines}
 use Rattle.shares.proofs.Blocks.{at_place}
 use Rattle.shares.proofs.Planned.{two_loads, share_within}
-use Rattle.shares.proofs.Shifting.{moved, carried, relinked, held_after}
+use Rattle.shares.proofs.Shifting.{moved, relinked, held_after}
 use Rattle.shares.proofs.plan.Plan.shift.Goals as goal
 
 pub gain-requires-clause-fits : goal.gain-requires-clause-fits
@@ -43,22 +43,4 @@ invariant_of-self c =
       wide = p.wide;
       linked = relinked ss from to c.lose.new.self c.gain.new.self lv lu r.apart c.of-linking.result c.of-linking.ensures.takes_the_batches c.of-linking.ensures.takes_the_width _ r.from_stands r.to_stands
           (rw is-from at c.lose.ensures.keeps_where_the_links_lead) (rw is-to at c.gain.ensures.keeps_where_the_links_lead) p.linked;
-    }
-
-pub returns : goal.returns
-returns c =
-    let p = c.args.self.now in
-    let ss = p.stations in
-    let from = c.args.from in
-    let to = c.args.to in
-    let r = c.requires in
-    let lv : from < length ss = omega (arith, p.long, r.from_stands, few_machines p.book) in
-    let lu : to < length ss = omega (arith, p.long, r.to_stands, few_machines p.book) in
-    let is-from = at_place ss from c.index-stations-from.result lv in
-    let is-to = get_or-set_other ss from to c.lose.new.self c.index-stations-to.result (λ e. r.apart (sym e)) ∙ at_place ss to c.index-stations-to.result lu in
-    record {
-      keeps_the_book = refl;
-      keeps_the_width = refl;
-      moves_the_blocks = moved ss from to c.lose.new.self c.gain.new.self lv lu r.apart c.args.batch c.args.blocks (rw is-from at c.lose.ensures.takes_the_blocks) (rw is-to at c.gain.ensures.adds_the_blocks);
-      carries_the_loads = carried ss from to c.lose.new.self c.gain.new.self lv lu r.apart c.args.blocks (rw is-from at c.lose.ensures.takes_from_the_load) (rw is-to at c.gain.ensures.adds_to_the_load);
     }

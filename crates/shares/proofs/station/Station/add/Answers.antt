@@ -15,8 +15,3 @@ invariant_of-self c =
       long = length-set s.blocks c.args.batch _ ∙ s.long;
       summed = omega (arith, s.summed, sum_more 128 c.args.batch c.args.blocks (nth s.blocks) _ c.requires.inside (put_more s.blocks c.args.batch _ l c.args.blocks refl));
     }
-
-pub returns-clause-adds_the_blocks : goal.returns-clause-adds_the_blocks
-returns-clause-adds_the_blocks c =
-    let s = c.args.self.now in
-    put_more s.blocks c.args.batch _ (omega (arith, s.long, c.requires.inside)) c.args.blocks refl

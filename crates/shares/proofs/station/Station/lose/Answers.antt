@@ -19,27 +19,17 @@ invariant_of-self c =
       summed = omega (arith, s.summed, sum_more 128 c.args.batch c.args.blocks _ (nth s.blocks) b (put_fewer s.blocks c.args.batch _ l c.args.blocks v));
     }
 
-pub returns-then-self-batch : goal.returns-then-self-batch
-returns-then-self-batch c =
-    let s = c.args.self.now in
-    let b : c.args.batch < 128 = omega (arith, c.requires.stands, c.args.linking.few) in
-    let l : c.args.batch < length s.blocks = omega (arith, s.long, b) in
-    let v : nth s.blocks c.args.batch - c.args.blocks + c.args.blocks ≡ nth s.blocks c.args.batch = omega (arith, c.requires.there) in
-    record {
-      takes_the_blocks = put_fewer s.blocks c.args.batch _ l c.args.blocks v;
-      takes_from_the_load = omega (arith, c.requires.there, blocks_within s c.args.batch b);
-      keeps_where_the_links_lead = λ _. c.led_to-self.ensures.holds_where_the_links_lead;
-    }
+pub returns-then-self-batch-clause-takes_from_the_load : goal.returns-then-self-batch-clause-takes_from_the_load
+returns-then-self-batch-clause-takes_from_the_load c =
+    omega (arith, c.requires.there, blocks_within c.args.self.now c.args.batch (omega (arith, c.requires.stands, c.args.linking.few)))
 
-pub returns-else-self-batch : goal.returns-else-self-batch
-returns-else-self-batch c =
+pub returns-else-self-batch-clause-takes_from_the_load : goal.returns-else-self-batch-clause-takes_from_the_load
+returns-else-self-batch-clause-takes_from_the_load c =
+    omega (arith, c.requires.there, blocks_within c.args.self.now c.args.batch (omega (arith, c.requires.stands, c.args.linking.few)))
+
+pub returns-else-self-batch-clause-keeps_where_the_links_lead : goal.returns-else-self-batch-clause-keeps_where_the_links_lead
+returns-else-self-batch-clause-keeps_where_the_links_lead c =
     let s = c.args.self.now in
-    let b : c.args.batch < 128 = omega (arith, c.requires.stands, c.args.linking.few) in
-    let l : c.args.batch < length s.blocks = omega (arith, s.long, b) in
+    let l : c.args.batch < length s.blocks = omega (arith, s.long, c.requires.stands, c.args.linking.few) in
     let v : nth s.blocks c.args.batch - c.args.blocks + c.args.blocks ≡ nth s.blocks c.args.batch = omega (arith, c.requires.there) in
-    let took = put_fewer s.blocks c.args.batch _ l c.args.blocks v in
-    record {
-      takes_the_blocks = took;
-      takes_from_the_load = omega (arith, c.requires.there, blocks_within s c.args.batch b);
-      keeps_where_the_links_lead = λ led j. led j ∙ sym (links_many _ _ j c.args.batch c.args.blocks _ (nth s.blocks) took c.if-self-batch.false);
-    }
+    λ led j. led j ∙ sym (links_many _ _ j c.args.batch c.args.blocks _ (nth s.blocks) (put_fewer s.blocks c.args.batch _ l c.args.blocks v) c.if-self-batch.false)

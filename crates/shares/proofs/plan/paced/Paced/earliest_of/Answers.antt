@@ -8,9 +8,8 @@ use Rattle.shares.proofs.Picking.{popped_less, first_in, seen_more}
 use Rattle.shares.proofs.Sizes.{without_within}
 use Rattle.shares.proofs.plan.paced.Paced.earliest_of.Goals as goal
 
-pub mark_after-mark-requires : goal.mark_after-mark-requires
-mark_after-mark-requires g c =
-    record { stands = c.requires.stand c.args.first (first_in (has c.args.others) c.args.first); few = c.requires.few }
+pub mark_after-mark-requires-clause-stands : goal.mark_after-mark-requires-clause-stands
+mark_after-mark-requires-clause-stands g c = c.requires.stand c.args.first (first_in (has c.args.others) c.args.first)
 
 pub loop-j-smaller-then-is_before : goal.loop-j-smaller-then-is_before
 loop-j-smaller-then-is_before g c = let e = c.in-Some.ensures in popped_less _ _ _ e.gives_the_lowest_place e.takes_just_this_place

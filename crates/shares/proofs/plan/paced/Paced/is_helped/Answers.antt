@@ -2,5 +2,5 @@ use Rattle.std.proofs.Common.{arith}
 use Rattle.shares.proofs.Planned.{load_few}
 use Rattle.shares.proofs.plan.paced.Paced.is_helped.Goals as goal
 
-pub mark_after-next-requires : goal.mark_after-next-requires
-mark_after-next-requires g c = record { stands = c.requires.stand.1; few = omega (arith, c.requires.there.1, load_few c.args.self.plan.now c.args.i c.requires.stand.0) }
+pub mark_after-next-requires-clause-few : goal.mark_after-next-requires-clause-few
+mark_after-next-requires-clause-few g c = omega (arith, c.requires.there.1, load_few c.args.self.plan.now c.args.i c.requires.stand.0)

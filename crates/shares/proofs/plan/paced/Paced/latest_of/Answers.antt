@@ -8,10 +8,8 @@ use Rattle.shares.proofs.Picking.{popped_less, first_in, seen_more}
 use Rattle.shares.proofs.Sizes.{without_within}
 use Rattle.shares.proofs.plan.paced.Paced.latest_of.Goals as goal
 
-pub mark_back-mark-requires : goal.mark_back-mark-requires
-mark_back-mark-requires g c =
-    let it = c.requires.laden c.args.first (first_in (has c.args.others) c.args.first) in
-    record { stands = it.0; there = (c.args.self.plan.now.wide, it.1) }
+pub mark_back-mark-requires-clause-stands : goal.mark_back-mark-requires-clause-stands
+mark_back-mark-requires-clause-stands g c = (c.requires.laden c.args.first (first_in (has c.args.others) c.args.first)).0
 
 pub loop-i-smaller-then-is_before : goal.loop-i-smaller-then-is_before
 loop-i-smaller-then-is_before g c = let e = c.in-Some.ensures in popped_less _ _ _ e.gives_the_lowest_place e.takes_just_this_place
