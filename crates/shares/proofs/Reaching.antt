@@ -1,50 +1,11 @@
 -- The steps of a search for a residual reach.
-use Rattle.std.proofs.Common.{◌≡◌, ℕ, ◌<◌, ◌≤◌, Bool, true, false, cond, not, ◌&&◌, ◌||◌, eqb, List, length, set, sym, refl, ap, ◌∙◌, inl, inr, arith}
-use Rattle.std.proofs.lemmas.List.{get_or-set_same, get_or-set_other}
+use Rattle.std.proofs.Common.{◌≡◌, ℕ, ◌<◌, ◌≤◌, Bool, true, false, cond, not, ◌&&◌, ◌||◌, eqb, sym, refl, ap, ◌∙◌, inl, inr, arith}
 use Rattle.std.proofs.lemmas.Bool.{cases_eq, cases_Bool, both_ways, eq-eqb, ne_eqb}
 use Rattle.places.specs.Has.{size}
-use Rattle.shares.specs.Cells.{nth}
 use Rattle.theory.specs.Sums.{total, only}
 use Rattle.theory.proofs.Sums.{total_eq, total_lt}
 use Rattle.shares.specs.Reaches.{Within, Shut, Linked, Reached, Noted}
 use Rattle.shares.proofs.Sizes.{size_le, size_lt, size_few, without_within}
-
--- nothing is noted yet
-pub noted_none : (S : ℕ → Bool) (i : ℕ) (before : ℕ → ℕ) → Noted (λ k. S k && not (S k)) i before before
-noted_none S i before = record {
-  here = λ k e. absurd (both_ways _ (none (S k)) e);
-  elsewhere = λ k _. refl;
-}
-  where
-    none : (s : Bool) → (s && not s) ≡ false
-    none s = grind arith
-
--- one place more is noted
-module _ (S L L' : ℕ → Bool) (i j : ℕ) (bs : List ℕ)
-    (lb : j < length bs) (less : (k : ℕ) → L' k ≡ (L k && not (eqb k j))) (sj : S j ≡ true) where
-  same : (k : ℕ) → (k ≡ j → ⊥) → (S k && not (L' k)) ≡ (S k && not (L k))
-  same k d = ap (λ t. S k && not t) (less k ∙ ap (λ t. L k && not t) (ne_eqb k j d) ∙ kept (L k))
-    where
-      kept : (s : Bool) → (s && not false) ≡ s
-      kept s = grind arith
-
-  pub noted_more : {before : ℕ → ℕ} → Noted (λ k. S k && not (L k)) i before (nth bs) → Noted (λ k. S k && not (L' k)) i before (nth (set bs j i))
-  noted_more n = record {
-    here = λ k e. elim (cases_eq k j) [
-      | inl s ↦ rw s (get_or-set_same bs j i 0 lb)
-      | inr d ↦ get_or-set_other bs j k i 0 d ∙ n.here k (sym (same k d) ∙ e)
-    ];
-    elsewhere = λ k e. elim (cases_eq k j) [
-      | inl s ↦ absurd (both_ways (S k) (out (S k) (L' k) (less k ∙ gone (L k) (eqb k j) (eq-eqb k j s)) e) (rw s sj))
-      | inr d ↦ get_or-set_other bs j k i 0 d ∙ n.elsewhere k (sym (same k d) ∙ e)
-    ];
-  }
-    where
-      gone : (s t : Bool) → t ≡ true → (s && not t) ≡ false
-      gone s t e = grind arith
-
-      out : (s t : Bool) → t ≡ false → (s && not t) ≡ false → s ≡ false
-      out s t e f = grind arith
 
 -- a search that has looked on from each place found, but for those still to do
 pub record Searching (E : ℕ → ℕ → Bool) (from S todo : ℕ → Bool) (before : ℕ → ℕ) : Type 0 where

@@ -3,8 +3,7 @@ use Rattle.std.proofs.Common.{◌≡◌, ℕ, ◌+◌, ◌<◌, Bool, true, fals
 use Rattle.std.proofs.lemmas.List.{get_or-set_same, get_or-set_other, length-set}
 use Rattle.std.proofs.lemmas.Bool.{cases_eq}
 use Rattle.theory.specs.Sums.{only}
-use Rattle.theory.specs.Moves.{at, Moved, Carried}
-use Rattle.theory.proofs.Sums.{only_here, only_off}
+use Rattle.theory.specs.Moves.{at, Moved}
 use Rattle.theory.proofs.Moves.{at_off, at_held}
 use Rattle.shares.specs.declared.station.Station.{Station}
 use Rattle.books.specs.declared.batch.Batch.{Batch}
@@ -43,15 +42,6 @@ module _ (ss : List Station) (v u : ℕ) (s t : Station) (lv : v < length ss) (l
           (omega (arith, gave c, at_same b u c a, at_off b v c u a (λ e. ne (sym e))))
           (λ q dv du. omega (arith, at_off b v c q a dv, at_off b u c q a du)) q;
     }
-
-  pub carried : (a : ℕ) → (station_at ss v).load ≡ s.load + a → t.load ≡ (station_at ss u).load + a
-      → Carried v u a (λ q. (station_at ss q).load) (λ q. (station_at (set (set ss v s) u t) q).load)
-  carried a took gave = record {
-    loads = each_station (λ q r. r.load + only (eqb q v) a ≡ (station_at ss q).load + only (eqb q u) a)
-        (omega (arith, took, only_here v a, only_off v u a ne))
-        (omega (arith, gave, only_here u a, only_off u v a (λ e. ne (sym e))))
-        (λ q dv du. omega (arith, only_off q v a dv, only_off q u a du));
-  }
 
   -- the links of both lead right again, and those of the others still
   module _ (g : Linking) {w : ℕ} {bs : List Batch} (batches : g.batches.now ≡ bs) (width : g.width ≡ w) where

@@ -44,3 +44,16 @@ invariant_of-self c =
       linked = relinked ss from to c.lose.new.self c.gain.new.self lv lu r.apart c.of-linking.result c.of-linking.ensures.takes_the_batches c.of-linking.ensures.takes_the_width _ r.from_stands r.to_stands
           (rw is-from at c.lose.ensures.keeps_where_the_links_lead) (rw is-to at c.gain.ensures.keeps_where_the_links_lead) p.linked;
     }
+
+pub returns-clause-moves_the_blocks : goal.returns-clause-moves_the_blocks
+returns-clause-moves_the_blocks c =
+    let p = c.args.self.now in
+    let ss = p.stations in
+    let from = c.args.from in
+    let to = c.args.to in
+    let r = c.requires in
+    let lv : from < length ss = omega (arith, p.long, r.from_stands, few_machines p.book) in
+    let lu : to < length ss = omega (arith, p.long, r.to_stands, few_machines p.book) in
+    let is-from = at_place ss from c.index-stations-from.result lv in
+    let is-to = get_or-set_other ss from to c.lose.new.self c.index-stations-to.result (λ e. r.apart (sym e)) ∙ at_place ss to c.index-stations-to.result lu in
+    moved ss from to c.lose.new.self c.gain.new.self lv lu r.apart c.args.batch c.args.blocks (rw is-from at c.lose.ensures.takes_the_blocks) (rw is-to at c.gain.ensures.adds_the_blocks)
