@@ -1,5 +1,5 @@
 mod Sizes
-pub mod Cut
+mod Cut
 mod Reaching
 mod Stepping
 pub mod Facts

@@ -21,7 +21,10 @@ impl Reach {
     pub(crate) fn of(stations: &[Station; 32], from: Places) -> Reach
         ensures reaches_just_what_chains_lead_to { Reached (leads_to stations.now) (has from) (has result.places) (nth result.before) }
     {
-        let mut reach = Reach::starting(from);
+        let mut reach = Reach {
+            places: from,
+            before: [0; 32],
+        };
         let mut layer = from;
         let mut found = Places::empty();
         while let Some(i) = layer.pop_first() {
@@ -30,16 +33,6 @@ impl Reach {
             (layer, found) = next_layer(layer, found.union(new));
         }
         reach
-    }
-
-    // The starts, and nothing noted.
-    fn starting(from: Places) -> Reach
-        ensures has_the_starts { result.places ≡ from }
-    {
-        Reach {
-            places: from,
-            before: [0; 32],
-        }
     }
 
     // Adds the new places, to which the place i leads.

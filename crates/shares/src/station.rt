@@ -8,6 +8,7 @@ ghost use Rattle.shares.specs.Links.{links, Widest};
 use crate::linking::Linking;
 use places::Places;
 
+// Its type keeps that the load is the sum of the blocks.
 #[derive(Clone, Copy)]
 pub(crate) struct Station {
     // of each batch
@@ -96,7 +97,7 @@ impl Station {
     }
 
     // Finds where the links lead. A machine whose load is below the width has none.
-    pub(crate) fn link(&mut self, linking: Linking)
+    pub(crate) fn find_links(&mut self, linking: Linking)
         ensures keeps_the_blocks { self.new.blocks ≡ self.old.blocks }
         ensures keeps_the_load { self.new.load ≡ self.old.load }
         ensures finds_where_the_links_lead { Led linking.entry self.new }
@@ -108,10 +109,12 @@ impl Station {
         };
     }
 
+    // Where the links lead.
     fn led_to(&self, linking: Linking) -> Places
         ensures holds_where_the_links_lead { (j : ℕ) → has result j ≡ links linking.entry.width linking.entry.batches.now (nth self.now.blocks) j }
     {
         let mut places = Places::empty();
+        // by index into the blocks: a zip with them misses the bar of speed
         for (b, batch) in linking.batches.iter().enumerate() {
             if self.blocks[b] >= linking.width {
                 places = places.union(batch.holders);

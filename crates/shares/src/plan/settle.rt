@@ -51,7 +51,7 @@ impl Plan {
     {
         self.width = width;
         let linking = Linking::of(&self.book, width);
-        link_all(&mut self.stations, linking);
+        find_all_links(&mut self.stations, linking);
     }
 
     // All blocks of each batch on its first holder.
@@ -59,7 +59,7 @@ impl Plan {
         ensures keeps_the_book { result.book ≡ book }
     {
         let mut stations = place(&book);
-        link_all(&mut stations, Linking::of(&book, WIDEST));
+        find_all_links(&mut stations, Linking::of(&book, WIDEST));
         Plan {
             book,
             width: WIDEST,
@@ -100,12 +100,12 @@ fn first_holder(book: &Book, batch: usize) -> usize
 }
 
 // Finds where the links of all machines lead.
-fn link_all(stations: &mut [Station; 32], linking: Linking)
+fn find_all_links(stations: &mut [Station; 32], linking: Linking)
     ensures keeps_the_length { length stations.new ≡ length stations.old }
     ensures keeps_the_blocks { (b i : ℕ) → cell stations.new b i ≡ cell stations.old b i }
     ensures finds_where_the_links_lead { (i : ℕ) → i < 32 → Led linking.entry (station_at stations.new i) }
 {
     for station in stations.iter_mut() {
-        station.link(linking);
+        station.find_links(linking);
     }
 }

@@ -1,6 +1,6 @@
 use Rattle.std.proofs.Common.{◌≡◌, ℕ, ◌<◌, length}
 use Rattle.shares.specs.Stations.{station_at, Led}
-use Rattle.shares.proofs.plan.settle.link_all.Given as goal
+use Rattle.shares.proofs.plan.settle.find_all_links.Given as goal
 
 abbrev pub invariant-loop-station : goal.invariant-loop-station
 invariant-loop-station l =

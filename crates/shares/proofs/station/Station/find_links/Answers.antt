@@ -2,8 +2,8 @@ use Rattle.std.proofs.Common.{sym, ◌∙◌, arith}
 use Rattle.shares.specs.Cells.{nth}
 use Rattle.shares.proofs.Blocks.{blocks_within}
 use Rattle.shares.proofs.Leading.{links_none}
-use Rattle.shares.proofs.station.Station.link.Goals as goal
-use Rattle.shares.proofs.station.Station.link.Goals.{then-self-linking, else-self-linking}
+use Rattle.shares.proofs.station.Station.find_links.Goals as goal
+use Rattle.shares.proofs.station.Station.find_links.Goals.{then-self-linking, else-self-linking}
 
 pub returns-clause-finds_where_the_links_lead : goal.returns-clause-finds_where_the_links_lead
 returns-clause-finds_where_the_links_lead c = λ j. elim c.if-self-linking.branch [
