@@ -17,6 +17,7 @@ use Rattle.shares.specs.Marks.{machine_at}
 use Rattle.shares.specs.Tables.{batch_at, demand_of}
 use Rattle.shares.specs.Plans.{machines_at, share, load_at, values_in, LevelPlan}
 use Rattle.shares.proofs.Facts.{number_at}
+use Rattle.shares.proofs.Planned.{load_sum}
 use Rattle.planner.specs.ShareOuts.{held_at, to_share, Shared, load_of}
 
 -- a batch of the book, as it stands
@@ -41,19 +42,19 @@ module _ (k : Plan) where
   shared = complete_alike (alike k.book) (share k) complete
 
   pub load_is : (i : ℕ) → load_at k i ≡ load_of (standing_of k.book) (share k) i
-  load_is i = k.summed i ∙ load_alike (alike k.book) (share k) i
+  load_is i = load_sum k i ∙ load_alike (alike k.book) (share k) i
 
   -- a level plan is stable
   level_stable : (table : Terms → ℕ → ℕ) → LevelPlan 1 table k → Stable (machines_at k) (values_in table k) (demand_of k.book) (share k)
   level_stable table level i li some =
-      let s = level i li (omega (arith, k.summed i)) in (
+      let s = level i li (omega (arith, load_sum k i)) in (
         s.set,
         s.has_it,
         (λ b q lb lq e block. inside_from (machines_at k) (demand_of k.book) s.set b (λ j lj h. s.closed b q j lb lq lj e block h)),
         λ q lq e.
             let p = values_in table k in
-            let last : load_at k i - 1 + 1 ≡ load (demand_of k.book) (share k) i = omega (arith, k.summed i) in
-            let next : load_at k q + 1 ≡ suc (load (demand_of k.book) (share k) q) = omega (arith, k.summed q) in
+            let last : load_at k i - 1 + 1 ≡ load (demand_of k.book) (share k) i = omega (arith, load_sum k i) in
+            let next : load_at k q + 1 ≡ suc (load (demand_of k.book) (share k) q) = omega (arith, load_sum k q) in
             omega (arith, s.full q lq e, ap (p i) last, ap (p q) next),
       )
 

@@ -1,16 +1,17 @@
 -- What the type of a book keeps, by places.
-use Rattle.std.proofs.Common.{◌≡◌, ℕ, zero, suc, ◌<◌, ◌≤◌, Bool, true, false, List, [], ◌∷◌, length, get_or, sym, refl, ◌∙◌, inl, inr, arith}
-use Rattle.std.proofs.lemmas.List.{length-map, get_or_default}
+use Rattle.std.proofs.Common.{◌≡◌, ℕ, zero, suc, ◌<◌, ◌≤◌, Bool, true, false, List, [], ◌∷◌, length, get_or, sym, refl, ap, ◌∙◌, inl, inr, arith}
+use Rattle.std.proofs.lemmas.List.{length-map, get_or_default, get_or_past}
 use Rattle.std.proofs.lemmas.List.Sums.{sum_by-cons}
 use Rattle.std.proofs.lemmas.Bool.{and_parts, or_cases, not-true, both_ways}
 use Rattle.places.specs.Has.{has}
+use Rattle.places.proofs.Digits.{has_none}
 use Rattle.pace.specs.Moments.{Fit}
 use Rattle.theory.specs.Sums.{total}
 use Rattle.theory.proofs.Sums.{total_none, total_first}
 use Rattle.books.specs.declared.machine.Machine.{Machine}
 use Rattle.books.specs.declared.batch.Batch.{Batch}
 use Rattle.books.specs.declared.book.Book.{Book}
-use Rattle.books.specs.Ranges.{some_below, machine_in_range, batch_in_range, holders_at, blocks_in}
+use Rattle.books.specs.Ranges.{some_below, no_batch, machine_in_range, batch_in_range, holders_at, blocks_in}
 use Rattle.books.specs.Standing.{machine_numbers}
 use Rattle.books.specs.Views.{machines_in, batches_in}
 use Rattle.books.proofs.Orders.{ascending_lt, key_at}
@@ -30,6 +31,10 @@ some_where (suc n) p e = elim (or_cases (p n) (some_below n p) e) [
 blocks_total : (bs : List Batch) → blocks_in bs ≡ total (length bs) (λ b. (batch_at bs b).blocks)
 blocks_total [] = sym (total_none _)
 blocks_total (b ∷ bs) = omega (arith, sum_by-cons (λ c. c.blocks) b bs, blocks_total bs, total_first (length bs) (λ i. (batch_at (b ∷ bs) i).blocks))
+
+-- no machine holds a batch past the last one
+pub past_none : (bs : List Batch) (b i : ℕ) → length bs ≤ b → has (holders_at bs b) i ≡ false
+past_none bs b i l = ap (λ (a : Batch). has a.holders i) (get_or_past bs b no_batch l) ∙ has_none i
 
 module _ (k : Book) where
   pub few_machines : length (machines_in k) ≤ 32

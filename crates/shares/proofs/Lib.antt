@@ -1,8 +1,10 @@
 mod Sizes
-mod Zeros
+mod Cut
 mod Reaching
+mod Stepping
 pub mod Facts
-mod Linking
+mod Blocks
+mod Leading
 mod Shifting
 pub mod Planned
 pub mod Ordering

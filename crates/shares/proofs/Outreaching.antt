@@ -5,12 +5,13 @@ use Rattle.places.specs.Has.{has}
 use Rattle.books.specs.Ranges.{holders_at}
 use Rattle.books.specs.Views.{batches_in}
 use Rattle.shares.specs.declared.plan.Plan.{Plan}
-use Rattle.shares.specs.Tables.{leads_to, demand_of}
-use Rattle.shares.specs.Reaches.{Within, Reached, Chained}
+use Rattle.shares.specs.Stations.{leads_to}
+use Rattle.shares.specs.Tables.{demand_of}
+use Rattle.shares.specs.Reaches.{Within, Linked, Reached, Chained}
 use Rattle.shares.specs.Levels.{ClosedBy}
 use Rattle.shares.specs.Plans.{machines_at, batches_at, share, Outreach}
 use Rattle.shares.proofs.Facts.{few_machines}
-use Rattle.shares.proofs.Linking.{links_some, links_at}
+use Rattle.shares.proofs.Leading.{links_some, links_at}
 
 and_not : (u v : Bool) → (u && not v) ≡ true → (u ≡ true) × (v ≡ false)
 and_not true true e = absurd (both_ways true (sym e) refl)
@@ -21,10 +22,10 @@ and_yes : (u v : Bool) → u ≡ true → v ≡ false → (u && not v) ≡ true
 and_yes u v e f = grind arith
 
 -- the reach W of i and all that is exhausted, and what of it is not exhausted, S
-module _ (k : Plan) {C from W S : ℕ → Bool} {before stage : ℕ → ℕ} (i : ℕ)
+module _ (k : Plan) {C from W S : ℕ → Bool} {before : ℕ → ℕ} (i : ℕ)
     (within : (q : ℕ) → C q ≡ true → q < machines_at k) (closed : ClosedBy k.width (machines_at k) (demand_of k.book) (share k) C)
     (li : i < machines_at k) (ci : C i ≡ false)
-    (one : (q : ℕ) → from q ≡ (C q || (eqb q i && ltb i 32))) (g : Reached (leads_to k.flow.next) from W before stage) (rest : (q : ℕ) → S q ≡ (W q && not (C q))) where
+    (one : (q : ℕ) → from q ≡ (C q || (eqb q i && ltb i 32))) (g : Reached (leads_to k.stations) from W before) (rest : (q : ℕ) → S q ≡ (W q && not (C q))) where
   few : i < 32
   few = omega (arith, li, few_machines k.book)
 
@@ -32,7 +33,7 @@ module _ (k : Plan) {C from W S : ℕ → Bool} {before stage : ℕ → ℕ} (i 
   starts q e = elim (or_cases (C q) (eqb q i && ltb i 32) (sym (one q) ∙ e)) [ inl t ↦ within q t | inr t ↦ rw (eqb-true q i (and_parts _ _ t).0) li ]
 
   -- a link leads from a machine with blocks enough of a batch to a holder of it
-  linked : (q j : ℕ) → q < machines_at k → leads_to k.flow.next q j ≡ true
+  linked : (q j : ℕ) → q < machines_at k → leads_to k.stations q j ≡ true
       → (b : ℕ) × (b < batches_at k) × (k.width ≤ share k b q) × (has (holders_at (batches_in k.book) b) j ≡ true)
   linked q j l e = links_some k.width (batches_in k.book) j (λ b. share k b q) (sym (k.linked q j l) ∙ e)
 
@@ -66,20 +67,23 @@ module _ (k : Plan) {C from W S : ℕ → Bool} {before stage : ℕ → ℕ} (i 
   rest_out q e = elim (cases_Bool (S q)) [ inl t ↦ absurd (both_ways (C q) (rest_in q t).1 e) | inr f ↦ f ]
 
   -- a chain to a machine that is not exhausted passes through none that is
-  rest_chained : Chained (leads_to k.flow.next) i S before stage
-  rest_chained q e ne =
-      let in-q = rest_in q e in
-      let off : from q ≡ false = one q ∙ rw (in-q.1, ne_eqb q i ne) refl in
-      let o = g.linked q in-q.0 off in
-      let r = before q in
-      let s = linked r q (reach_low r o.inside) o.leads in
-      let none : C r ≡ false = elim (cases_Bool (C r)) [
-        | inl t ↦ absurd (both_ways (C q) in-q.1 (closed s.0 r q s.1 (reach_low r o.inside) (reach_low q in-q.0) t s.2 s.3))
-        | inr f ↦ f
-      ] in
-      record { inside = rest_from r o.inside none; leads = o.leads; earlier = o.earlier }
+  rest_chained : Chained (leads_to k.stations) i S before
+  rest_chained = record { stage = g.stage; few = λ q e. g.few q (rest_in q e).0; linked = rest_linked }
+    where
+      rest_linked : (q : ℕ) → S q ≡ true → (q ≡ i → ⊥) → Linked (leads_to k.stations) S before g.stage q
+      rest_linked q e ne =
+          let in-q = rest_in q e in
+          let off : from q ≡ false = one q ∙ rw (in-q.1, ne_eqb q i ne) refl in
+          let o = g.linked q in-q.0 off in
+          let r = before q in
+          let s = linked r q (reach_low r o.inside) o.leads in
+          let none : C r ≡ false = elim (cases_Bool (C r)) [
+            | inl t ↦ absurd (both_ways (C q) in-q.1 (closed s.0 r q s.1 (reach_low r o.inside) (reach_low q in-q.0) t s.2 s.3))
+            | inr f ↦ f
+          ] in
+          record { inside = rest_from r o.inside none; leads = o.leads; earlier = o.earlier }
 
-  pub outreach : Outreach k C W S i before stage
+  pub outreach : Outreach k C W S i before
   outreach = record {
     low = reach_low;
     closed = reach_closed;

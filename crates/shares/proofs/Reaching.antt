@@ -1,95 +1,62 @@
 -- The steps of a search for a residual reach.
-use Rattle.std.proofs.Common.{◌≡◌, ℕ, ◌<◌, ◌≤◌, Bool, true, false, cond, not, ◌&&◌, ◌||◌, eqb, List, length, set, sym, refl, ap, ◌∙◌, inl, inr, arith}
-use Rattle.std.proofs.lemmas.List.{get_or-set_same, get_or-set_other}
+use Rattle.std.proofs.Common.{◌≡◌, ℕ, ◌<◌, ◌≤◌, Bool, true, false, cond, not, ◌&&◌, ◌||◌, eqb, sym, refl, ap, ◌∙◌, inl, inr, arith}
 use Rattle.std.proofs.lemmas.Bool.{cases_eq, cases_Bool, both_ways, eq-eqb, ne_eqb}
 use Rattle.places.specs.Has.{size}
-use Rattle.shares.specs.Cells.{nth}
 use Rattle.theory.specs.Sums.{total, only}
 use Rattle.theory.proofs.Sums.{total_eq, total_lt}
-use Rattle.shares.specs.Reaches.{Within, Shut, Linked, Noted}
-use Rattle.shares.proofs.Sizes.{size_le, size_lt, without_within}
-
--- nothing is noted yet
-pub noted_none : (S : ℕ → Bool) (i at : ℕ) (before stage : ℕ → ℕ)
-    → Noted (λ k. S k && not (S k)) i at before stage before stage
-noted_none S i at before stage = record {
-  here = λ k e. absurd (both_ways _ (none (S k)) e);
-  elsewhere = λ k _. (refl, refl);
-}
-  where
-    none : (s : Bool) → (s && not s) ≡ false
-    none s = grind arith
-
--- one place more is noted
-module _ (S L L' : ℕ → Bool) (i at j : ℕ) (bs ss : List ℕ)
-    (lb : j < length bs) (ls : j < length ss) (less : (k : ℕ) → L' k ≡ (L k && not (eqb k j))) (sj : S j ≡ true) where
-  at_other : (xs : List ℕ) (v k : ℕ) → (k ≡ j → ⊥) → nth (set xs j v) k ≡ nth xs k
-  at_other xs v k d = get_or-set_other xs j k v 0 d
-
-  at_here : (xs : List ℕ) (v k : ℕ) → j < length xs → k ≡ j → nth (set xs j v) k ≡ v
-  at_here xs v k l e = rw e (get_or-set_same xs j v 0 l)
-
-  same : (k : ℕ) → (k ≡ j → ⊥) → (S k && not (L' k)) ≡ (S k && not (L k))
-  same k d = ap (λ t. S k && not t) (less k ∙ ap (λ t. L k && not t) (ne_eqb k j d) ∙ kept (L k))
-    where
-      kept : (s : Bool) → (s && not false) ≡ s
-      kept s = grind arith
-
-  pub noted_more : {before stage : ℕ → ℕ} → Noted (λ k. S k && not (L k)) i at before stage (nth bs) (nth ss)
-      → Noted (λ k. S k && not (L' k)) i at before stage (nth (set bs j i)) (nth (set ss j at))
-  noted_more n = record {
-    here = λ k e. elim (cases_eq k j) [
-      | inl s ↦ (at_here bs i k lb s, at_here ss at k ls s)
-      | inr d ↦ let o = n.here k (sym (same k d) ∙ e) in (at_other bs i k d ∙ o.0, at_other ss at k d ∙ o.1)
-    ];
-    elsewhere = λ k e. elim (cases_eq k j) [
-      | inl s ↦ absurd (both_ways (S k) (out (S k) (L' k) (less k ∙ gone (L k) (eqb k j) (eq-eqb k j s)) e) (rw s sj))
-      | inr d ↦ let o = n.elsewhere k (sym (same k d) ∙ e) in (at_other bs i k d ∙ o.0, at_other ss at k d ∙ o.1)
-    ];
-  }
-    where
-      gone : (s t : Bool) → t ≡ true → (s && not t) ≡ false
-      gone s t e = grind arith
-
-      out : (s t : Bool) → t ≡ false → (s && not t) ≡ false → s ≡ false
-      out s t e f = grind arith
+use Rattle.shares.specs.Reaches.{Within, Shut, Linked, Reached, Noted}
+use Rattle.shares.proofs.Sizes.{size_le, size_lt, size_few, without_within}
 
 -- a search that has looked on from each place found, but for those still to do
-pub record Searching (E : ℕ → ℕ → Bool) (from S todo : ℕ → Bool) (before stage : ℕ → ℕ) : Type 0 where
+pub record Searching (E : ℕ → ℕ → Bool) (from S todo : ℕ → Bool) (before : ℕ → ℕ) : Type 0 where
   pub starts : Within from S
   pub found : Within todo S
   pub low : (i : ℕ) → S i ≡ true → i < 32
   pub shut : (i j : ℕ) → S i ≡ true → todo i ≡ false → E i j ≡ true → S j ≡ true
   pub least : (T : ℕ → Bool) → Within from T → Shut E T → Within S T
-  pub linked : (i : ℕ) → S i ≡ true → from i ≡ false → Linked E S before stage i
+  pub stage : ℕ → ℕ
   pub stages : (i : ℕ) → S i ≡ true → stage i ≤ size S
+  pub linked : (i : ℕ) → S i ≡ true → from i ≡ false → Linked E S before stage i
+
+-- a search with nothing left to do has all that is reached
+pub searched : {E : ℕ → ℕ → Bool} {from S todo : ℕ → Bool} {before : ℕ → ℕ} → Searching E from S todo before → ((k : ℕ) → todo k ≡ false) → Reached E from S before
+searched {S = S} s none = record {
+  starts = s.starts;
+  shut = λ i j e h. s.shut i j e (none i) h;
+  least = s.least;
+  stage = s.stage;
+  few = λ i e. omega (arith, s.stages i e, size_few S);
+  linked = s.linked;
+}
 
 -- what is left to do: a place that is not found may still be found, and one to do is to be looked on from
 abbrev pub left : (ℕ → Bool) → (ℕ → Bool) → ℕ
 left S todo = total 32 (λ k. cond (S k) (only (todo k) 1) 2)
 
-pub searching_start : (E : ℕ → ℕ → Bool) (from todo : ℕ → Bool) (before stage : ℕ → ℕ)
-    → ((k : ℕ) → todo k ≡ from k) → ((k : ℕ) → from k ≡ true → k < 32) → ((i : ℕ) → i < 32 → stage i ≡ 0) → Searching E from from todo before stage
-searching_start E from todo before stage same low none = record {
+pub searching_start : (E : ℕ → ℕ → Bool) (from todo : ℕ → Bool) (before : ℕ → ℕ)
+    → ((k : ℕ) → todo k ≡ from k) → ((k : ℕ) → from k ≡ true → k < 32) → Searching E from from todo before
+searching_start E from todo before same low = record {
   starts = λ _ e. e;
   found = λ k e. sym (same k) ∙ e;
   low = low;
   shut = λ i j e f _. absurd (both_ways (from i) (sym (same i) ∙ f) e);
   least = λ T in-T _. in-T;
+  stage = λ _. 0;
+  stages = λ i e. omega arith;
   linked = λ i e f. absurd (both_ways (from i) f e);
-  stages = λ i e. omega (arith, none i (low i e));
 }
 
-pub searching_same : {E : ℕ → ℕ → Bool} {from S todo : ℕ → Bool} {before stage : ℕ → ℕ} (todo' : ℕ → Bool)
-    → ((k : ℕ) → todo' k ≡ todo k) → Searching E from S todo before stage → Searching E from S todo' before stage
+pub searching_same : {E : ℕ → ℕ → Bool} {from S todo : ℕ → Bool} {before : ℕ → ℕ} (todo' : ℕ → Bool)
+    → ((k : ℕ) → todo' k ≡ todo k) → Searching E from S todo before → Searching E from S todo' before
 searching_same todo' same s = record {
   starts = s.starts;
   found = λ k e. s.found k (sym (same k) ∙ e);
   low = s.low;
   shut = λ i j e f. s.shut i j e (sym (same i) ∙ f);
   least = s.least;
-  linked = s.linked;
+  stage = s.stage;
   stages = s.stages;
+  linked = s.linked;
 }
 
 -- the layer without i, and what is found with the new places: just i is done, and just the new places are to do
@@ -108,7 +75,7 @@ todo_step L L' F F' N i apart li less more k = rw (less k, more k) (elim (cases_
     kept l f n b e = grind arith
 
 -- a look on from the place i, which is to do
-module _ {E : ℕ → ℕ → Bool} {from S todo : ℕ → Bool} {before stage : ℕ → ℕ} (s : Searching E from S todo before stage)
+module _ {E : ℕ → ℕ → Bool} {from S todo : ℕ → Bool} {before : ℕ → ℕ} (s : Searching E from S todo before)
     (i : ℕ) (new S' todo' : ℕ → Bool) (hi : todo i ≡ true)
     (is_new : (k : ℕ) → new k ≡ (E i k && not (S k))) (more : (k : ℕ) → S' k ≡ (S k || new k))
     (now-todo : (k : ℕ) → todo' k ≡ ((todo k && not (eqb k i)) || new k)) (low-new : (k : ℕ) → new k ≡ true → k < 32) where
@@ -164,31 +131,43 @@ module _ {E : ℕ → ℕ → Bool} {from S todo : ℕ → Bool} {before stage :
       each : (k : ℕ) → cond (S' k) (only (todo' k) 1) 2 ≤ cond (S k) (only (todo k) 1) 2
       each k = rw (more k, now-todo k) (weigh (S k) (new k) (todo k) (eqb k i) (not_new k))
 
-  module _ {before' stage' : ℕ → ℕ} (n : Noted new i (size S') before stage before' stage') where
-    kept : (k : ℕ) → S k ≡ true → (before' k ≡ before k) × (stage' k ≡ stage k)
+  module _ {before' : ℕ → ℕ} (n : Noted new i before before') where
+    -- the new places are at the stage that counts all places found
+    at_stage : ℕ → ℕ
+    at_stage k = cond (new k) (size S') (s.stage k)
+
+    at_new : (k : ℕ) → new k ≡ true → at_stage k ≡ size S'
+    unfolding at_stage
+    at_new k e = rw e refl
+
+    at_old : (k : ℕ) → S k ≡ true → at_stage k ≡ s.stage k
+    unfolding at_stage
+    at_old k e = rw (not_new k e) refl
+
+    kept : (k : ℕ) → S k ≡ true → before' k ≡ before k
     kept k e = n.elsewhere k (not_new k e)
 
-    old_link : (k : ℕ) → S k ≡ true → Linked E S before stage k → Linked E S' before' stage' k
+    old_link : (k : ℕ) → S k ≡ true → Linked E S before s.stage k → Linked E S' before' at_stage k
     old_link k e o =
-        let b = (kept k e).0 in
+        let b = kept k e in
         record {
           inside = ap S' b ∙ old (before k) o.inside;
           leads = ap (λ x. E x k) b ∙ o.leads;
-          earlier = omega (arith, ap stage' b, (kept (before k) o.inside).1, (kept k e).1, o.earlier);
+          earlier = omega (arith, ap at_stage b, at_old (before k) o.inside, at_old k e, o.earlier);
         }
 
-    new_link : (k : ℕ) → S' k ≡ true → S k ≡ false → Linked E S' before' stage' k
+    new_link : (k : ℕ) → S' k ≡ true → S k ≡ false → Linked E S' before' at_stage k
     new_link k e f =
         let w = which k e f in
         let h = n.here k w.0 in
         let si = s.found i hi in
         record {
-          inside = ap S' h.0 ∙ old i si;
-          leads = ap (λ x. E x k) h.0 ∙ w.1;
-          earlier = omega (arith, ap stage' h.0, h.1, (kept i si).1, s.stages i si, size_lt S S' old k (low-new k w.0) f e);
+          inside = ap S' h ∙ old i si;
+          leads = ap (λ x. E x k) h ∙ w.1;
+          earlier = omega (arith, ap at_stage h, at_new k w.0, at_old i si, s.stages i si, size_lt S S' old k (low-new k w.0) f e);
         }
 
-    pub searching_more : Searching E from S' todo' before' stage'
+    pub searching_more : Searching E from S' todo' before'
     searching_more = record {
       starts = λ k e. old k (s.starts k e);
       found = λ k e. elim (cases_Bool (new k)) [
@@ -207,11 +186,12 @@ module _ {E : ℕ → ℕ → Bool} {from S todo : ℕ → Bool} {before stage :
         | inl in-S ↦ s.least T in-T shut-T k in-S
         | inr out ↦ shut-T i k (s.least T in-T shut-T i (s.found i hi)) (which k e out).1
       ];
-      linked = λ k e f. elim (cases_Bool (S k)) [ inl in-S ↦ old_link k in-S (s.linked k in-S f) | inr out ↦ new_link k e out ];
+      stage = at_stage;
       stages = λ k e. elim (cases_Bool (S k)) [
-        | inl in-S ↦ omega (arith, (kept k in-S).1, s.stages k in-S, size_le S S' old)
-        | inr out ↦ omega (arith, (n.here k (which k e out).0).1)
+        | inl in-S ↦ omega (arith, at_old k in-S, s.stages k in-S, size_le S S' old)
+        | inr out ↦ omega (arith, at_new k (which k e out).0)
       ];
+      linked = λ k e f. elim (cases_Bool (S k)) [ inl in-S ↦ old_link k in-S (s.linked k in-S f) | inr out ↦ new_link k e out ];
     }
       where
         right : (a b : Bool) → b ≡ true → (a || b) ≡ true
@@ -221,16 +201,16 @@ module _ {E : ℕ → ℕ → Bool} {from S todo : ℕ → Bool} {before stage :
         was a b c f h = grind arith
 
 -- one turn of the search: the place i of the layer is looked on from
-pub record Turned (E : ℕ → ℕ → Bool) (from S S' L F L' F' : ℕ → Bool) (before' stage' : ℕ → ℕ) : Type 0 where
-  pub searching : Searching E from S' (λ k. L' k || F' k) before' stage'
+pub record Turned (E : ℕ → ℕ → Bool) (from S S' L F L' F' : ℕ → Bool) (before' : ℕ → ℕ) : Type 0 where
+  pub searching : Searching E from S' (λ k. L' k || F' k) before'
   pub less : left S' (λ k. L' k || F' k) < left S (λ k. L k || F k)
   pub apart : (k : ℕ) → L' k ≡ true → F' k ≡ false
 
-pub turned : {E : ℕ → ℕ → Bool} {from S S' L L' F F' new : ℕ → Bool} {before stage before' stage' : ℕ → ℕ} (i : ℕ)
-    → Searching E from S (λ k. L k || F k) before stage → ((k : ℕ) → L k ≡ true → F k ≡ false) → L i ≡ true
+pub turned : {E : ℕ → ℕ → Bool} {from S S' L L' F F' new : ℕ → Bool} {before before' : ℕ → ℕ} (i : ℕ)
+    → Searching E from S (λ k. L k || F k) before → ((k : ℕ) → L k ≡ true → F k ≡ false) → L i ≡ true
     → ((k : ℕ) → L' k ≡ (L k && not (eqb k i))) → ((k : ℕ) → new k ≡ (E i k && not (S k))) → ((k : ℕ) → S' k ≡ (S k || new k))
-    → ((k : ℕ) → F' k ≡ (F k || new k)) → ((k : ℕ) → new k ≡ true → k < 32) → Noted new i (size S') before stage before' stage'
-    → Turned E from S S' L F L' F' before' stage'
+    → ((k : ℕ) → F' k ≡ (F k || new k)) → ((k : ℕ) → new k ≡ true → k < 32) → Noted new i before before'
+    → Turned E from S S' L F L' F' before'
 turned {E} {S = S} {S' = S'} {L = L} {L' = L'} {F = F} {F' = F'} {new = new} i s apart li takes is_new more found low n = record {
   searching = searching_more s i new S' (λ k. L' k || F' k) hi is_new more step low n;
   less = searching_less s i new S' (λ k. L' k || F' k) hi is_new more step low;

@@ -1,45 +1,63 @@
 -- Blocks of one batch, moved from a machine to another: what stays true of shares, loads and links.
-use Rattle.std.proofs.Common.{◌≡◌, ℕ, ◌+◌, ◌<◌, Bool, true, false, leb, List, length, set, sym, ap, ◌∙◌, inl, inr, arith}
+use Rattle.std.proofs.Common.{◌≡◌, ℕ, ◌+◌, ◌<◌, Bool, true, false, eqb, List, length, set, sym, ap, ◌∙◌, inl, inr, arith}
 use Rattle.std.proofs.lemmas.List.{get_or-set_same, get_or-set_other, length-set}
 use Rattle.std.proofs.lemmas.Bool.{cases_eq}
-use Rattle.places.specs.declared.Places.{Places}
-use Rattle.places.specs.Has.{has, no_places}
+use Rattle.theory.specs.Sums.{only}
 use Rattle.theory.specs.Moves.{at, Moved}
-use Rattle.theory.proofs.Moves.{at_held, moved_from, moved_to, moved_else, moved_rest}
+use Rattle.theory.proofs.Moves.{at_off, at_held}
+use Rattle.shares.specs.declared.station.Station.{Station}
 use Rattle.books.specs.declared.batch.Batch.{Batch}
-use Rattle.shares.specs.Tables.{leads_to, links, Fewer}
-use Rattle.shares.proofs.Linking.{links_same}
+use Rattle.places.specs.Has.{has}
+use Rattle.shares.specs.declared.linking.Linking.{Linking}
+use Rattle.shares.specs.Cells.{nth}
+use Rattle.shares.specs.Links.{links}
+use Rattle.shares.specs.Stations.{no_station, station_at, cell, leads_to, Led}
+use Rattle.shares.proofs.Blocks.{at_same}
 
-pub taken_given : {a b v u : ℕ} {x y : ℕ → ℕ → ℕ} (mid : ℕ → ℕ → ℕ) → ((c q : ℕ) → x c q ≡ mid c q + at b v c q a) → ((c q : ℕ) → y c q ≡ mid c q + at b u c q a)
-    → Moved a b v u x y
-taken_given mid took gave = record { cells = λ c q. omega (arith, took c q, gave c q) }
+-- two stations of a list are put anew
+module _ (ss : List Station) (v u : ℕ) (s t : Station) (lv : v < length ss) (lu : u < length ss) (ne : v ≡ u → ⊥) where
+  pub new_to : station_at (set (set ss v s) u t) u ≡ t
+  new_to = get_or-set_same (set ss v s) u t no_station (omega (arith, lu, length-set ss v s))
 
-module _ (d : ℕ) (bs : List Batch) {a b v u : ℕ} {x y : ℕ → ℕ → ℕ} (mv : Moved a b v u x y) (ne : v ≡ u → ⊥)
-    (next : List Places) (long : length next ≡ 32) (lv : v < 32) (lu : u < 32) (less more : Places)
-    (f g : ℕ → ℕ) (at-v : (c : ℕ) → f c ≡ y c v) (at-u : (c : ℕ) → g c ≡ y c u) where
-  lost : Fewer b f (λ c. x c v)
-  lost = record { here = omega (arith, at-v b, moved_from mv ne); elsewhere = λ c d. at-v c ∙ sym (moved_rest mv c d v) }
+  pub new_from : station_at (set (set ss v s) u t) v ≡ s
+  new_from = get_or-set_other (set ss v s) u v t no_station ne ∙ get_or-set_same ss v s no_station lv
 
-  gained : Fewer b (λ c. x c u) g
-  gained = record { here = omega (arith, at-u b, moved_to mv ne); elsewhere = λ c d. moved_rest mv c d u ∙ sym (at-u c) }
+  pub new_other : (q : ℕ) → (q ≡ v → ⊥) → (q ≡ u → ⊥) → station_at (set (set ss v s) u t) q ≡ station_at ss q
+  new_other q dv du = get_or-set_other (set ss v s) u q t no_station du ∙ get_or-set_other ss v q s no_station dv
 
-  -- the words of both machines are right again, and those of the others still
-  pub relinked : (m : ℕ) → v < m → u < m → ((z : ℕ → ℕ) → Fewer b f z → ((j : ℕ) → leads_to next v j ≡ links d bs z j) → (j : ℕ) → has less j ≡ links d bs f j)
-      → ((z : ℕ → ℕ) → Fewer b z g → ((j : ℕ) → leads_to next u j ≡ links d bs z j) → (j : ℕ) → has more j ≡ links d bs g j)
-      → ((i j : ℕ) → i < m → leads_to next i j ≡ links d bs (λ c. x c i) j)
-      → (i j : ℕ) → i < m → leads_to (set (set next v less) u more) i j ≡ links d bs (λ c. y c i) j
-  relinked m mv-v mv-u after_loss after_gain led i j l = elim (cases_eq i u) [
-    | inl e ↦ rw e (
-        ap (λ (p : Places). has p j) (get_or-set_same (set next v less) u more no_places (omega (arith, long, lu, length-set next v less)))
-        ∙ after_gain (λ c. x c u) gained (λ q. led u q mv-u) j ∙ links_same d bs j g (λ c. y c u) (λ c _. ap (leb d) (at-u c)))
-    | inr d-u ↦ ap (λ (p : Places). has p j) (get_or-set_other (set next v less) u i more no_places d-u) ∙ elim (cases_eq i v) [
-      | inl e ↦ rw e (
-          ap (λ (p : Places). has p j) (get_or-set_same next v less no_places (omega (arith, long, lv)))
-          ∙ after_loss (λ c. x c v) lost (λ q. led v q mv-v) j ∙ links_same d bs j f (λ c. y c v) (λ c _. ap (leb d) (at-v c)))
-      | inr d-v ↦ ap (λ (p : Places). has p j) (get_or-set_other next v i less no_places d-v) ∙ led i j l
-          ∙ links_same d bs j (λ c. x c i) (λ c. y c i) (λ c _. ap (leb d) (moved_else mv i d-v d-u c))
-    ]
+  -- what is so of both, and of the others, is so of each
+  pub each_station : (P : ℕ → Station → Type 0) → P v s → P u t → ((q : ℕ) → (q ≡ v → ⊥) → (q ≡ u → ⊥) → P q (station_at ss q))
+      → (q : ℕ) → P q (station_at (set (set ss v s) u t) q)
+  each_station P pv pu others q = elim (cases_eq q u) [
+    | inl e ↦ rw e (rw new_to pu)
+    | inr du ↦ elim (cases_eq q v) [ inl e ↦ rw e (rw new_from pv) | inr dv ↦ rw (new_other q dv du) (others q dv du) ]
   ]
+
+  module _ (b a : ℕ) (took : (c : ℕ) → nth (station_at ss v).blocks c ≡ nth s.blocks c + only (eqb c b) a)
+      (gave : (c : ℕ) → nth t.blocks c ≡ nth (station_at ss u).blocks c + only (eqb c b) a) where
+    pub moved : Moved a b v u (cell ss) (cell (set (set ss v s) u t))
+    moved = record {
+      cells = λ c q. each_station (λ q r. nth r.blocks c + at b v c q a ≡ cell ss c q + at b u c q a)
+          (omega (arith, took c, at_same b v c a, at_off b u c v a ne))
+          (omega (arith, gave c, at_same b u c a, at_off b v c u a (λ e. ne (sym e))))
+          (λ q dv du. omega (arith, at_off b v c q a dv, at_off b u c q a du)) q;
+    }
+
+  -- the links of both lead right again, and those of the others still
+  module _ (g : Linking) {w : ℕ} {bs : List Batch} (batches : g.batches.now ≡ bs) (width : g.width ≡ w) where
+    into : (r : Station) → Led g r → (j : ℕ) → has r.next j ≡ links w bs (nth r.blocks) j
+    into r led j = led j ∙ ap (λ d. links d g.batches.now (nth r.blocks) j) width ∙ ap (λ hs. links w hs (nth r.blocks) j) batches
+
+    back : (r : Station) → ((j : ℕ) → has r.next j ≡ links w bs (nth r.blocks) j) → Led g r
+    back r led j = led j ∙ sym (ap (λ d. links d g.batches.now (nth r.blocks) j) width ∙ ap (λ hs. links w hs (nth r.blocks) j) batches)
+
+    pub relinked : (m : ℕ) → v < m → u < m → (Led g (station_at ss v) → Led g s) → (Led g (station_at ss u) → Led g t)
+        → ((i j : ℕ) → i < m → leads_to ss i j ≡ links w bs (λ c. cell ss c i) j)
+        → (i j : ℕ) → i < m → leads_to (set (set ss v s) u t) i j ≡ links w bs (λ c. cell (set (set ss v s) u t) c i) j
+    relinked m mv mu lost gained led i j l = each_station (λ q r. q < m → (k : ℕ) → has r.next k ≡ links w bs (nth r.blocks) k)
+        (λ _. into s (lost (back (station_at ss v) (λ k. led v k mv))))
+        (λ _. into t (gained (back (station_at ss u) (λ k. led u k mu))))
+        (λ q _ _ lq k. led q k lq) i l j
 
 -- a machine that is no holder has none after the move either
 pub held_after : {a b v u : ℕ} {x y : ℕ → ℕ → ℕ} (H : ℕ → ℕ → Bool) → Moved a b v u x y → H b u ≡ true → ((c q : ℕ) → H c q ≡ false → x c q ≡ 0)

@@ -11,11 +11,11 @@ use Rattle.std.specs.Prelude.{◌≡◌, ℕ, ◌+◌, ◌-◌, ◌<◌, Bool, t
 use Rattle.pace.specs.declared.terms.Terms.{Terms}
 use Rattle.books.specs.Views.{machines_in, batches_in}
 use Rattle.shares.specs.declared.plan.Plan.{Plan}
-use Rattle.shares.specs.Cells.{nth, cell}
+use Rattle.shares.specs.Stations.{station_at, cell, leads_to}
 use Rattle.shares.specs.Levels.{ClosedBy, Exhausted, Latest, Level}
 use Rattle.shares.specs.Marks.{later, machine_at, mark_of, values}
 use Rattle.shares.specs.Reaches.{Within, Chained}
-use Rattle.shares.specs.Tables.{leads_to, demand_of}
+use Rattle.shares.specs.Tables.{demand_of}
 
 abbrev pub machines_at : Plan → ℕ
 machines_at p = length (machines_in p.book)
@@ -24,10 +24,10 @@ abbrev pub batches_at : Plan → ℕ
 batches_at p = length (batches_in p.book)
 
 abbrev pub share : Plan → ℕ → ℕ → ℕ
-share p b i = cell p.flow.shares.rows b i
+share p b i = cell p.stations b i
 
 abbrev pub load_at : Plan → ℕ → ℕ
-load_at p i = nth p.flow.loads i
+load_at p i = (station_at p.stations i).load
 
 abbrev pub values_in : (Terms → ℕ → ℕ) → Plan → ℕ → ℕ → ℕ
 values_in table p = values table (machines_in p.book)
@@ -45,7 +45,7 @@ LatestPlan table p C i = Latest p.width (machines_at p) (values_in table p) (loa
 abbrev pub LevelPlan : ℕ → (Terms → ℕ → ℕ) → Plan → Type 0
 LevelPlan d table p = Level d (machines_at p) (demand_of p.book) (values_in table p) (share p) (load_at p)
 
-pub record Outreach (p : Plan) (C W S : ℕ → Bool) (i : ℕ) (before stage : ℕ → ℕ) : Type 0 where
+pub record Outreach (p : Plan) (C W S : ℕ → Bool) (i : ℕ) (before : ℕ → ℕ) : Type 0 where
   pub low : (q : ℕ) → W q ≡ true → q < machines_at p
   pub closed : ClosedBy p.width (machines_at p) (demand_of p.book) (share p) W
   pub has_exhausted : Within C W
@@ -53,4 +53,4 @@ pub record Outreach (p : Plan) (C W S : ℕ → Bool) (i : ℕ) (before stage : 
   pub rest : (q : ℕ) → W q ≡ true → C q ≡ false → S q ≡ true
   pub has_start : S i ≡ true
   pub apart : (q : ℕ) → C q ≡ true → S q ≡ false
-  pub chained : Chained (leads_to p.flow.next) i S before stage
+  pub chained : Chained (leads_to p.stations) i S before

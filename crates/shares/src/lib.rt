@@ -1,12 +1,11 @@
 // A book's blocks, shared out among the machines that hold them.
 #![tactic(auto)]
 
-mod flow;
-mod links;
+mod linking;
 mod mark;
 mod plan;
 mod reach;
-mod table;
+mod station;
 
 pub use mark::Mark;
 pub use plan::Plan;

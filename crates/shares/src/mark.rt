@@ -5,8 +5,8 @@ ghost use Rattle.shares.specs.Marks.{later, mark_of};
 use books::Machine;
 use pace::Pace;
 
-// A moment and a machine number.
-#[derive(Clone, Copy, Debug)]
+// A moment and a machine number: ordered by moment, then by number.
+#[derive(Clone, Copy, Debug, PartialEq, Eq, PartialOrd, Ord)]
 pub struct Mark {
     pub moment: u64,
     pub number: u16,
@@ -23,10 +23,10 @@ impl Mark {
         }
     }
 
-    // By moment, then by number.
+    // Whether the other mark is after this one.
     pub fn is_before(self, other: Mark) -> bool
         ensures tells_whether_the_other_is_after { result ≡ later other self }
     {
-        self.moment < other.moment || (self.moment == other.moment && self.number < other.number)
+        self < other
     }
 }

@@ -1,61 +1,49 @@
 // The residual reach of some machines: every machine that a chain of links leads to from them, breadth first.
-ghost use Rattle.std.specs.Prelude.{◌≡◌, ℕ, ◌<◌, true, false, ◌||◌};
-ghost use Rattle.places.specs.Has.{has, size};
+ghost use Rattle.std.specs.Prelude.{◌≡◌, ℕ, true, false, ◌||◌};
+ghost use Rattle.places.specs.Has.{has};
 ghost use Rattle.shares.specs.Cells.{nth};
-ghost use Rattle.shares.specs.Tables.{leads_to};
+ghost use Rattle.shares.specs.Stations.{leads_to};
 ghost use Rattle.shares.specs.Reaches.{Reached, Noted};
 
+use crate::station::Station;
 use places::Places;
 
-// Each place but the starts has the place that leads to it, and its stage: how many places had been found with
-// it. A chain back to a start goes from stage to smaller stage.
+// Each place but the starts has the place that leads to it, found before it: so a chain back ends at a start.
 #[derive(Clone, Copy)]
 pub(crate) struct Reach {
     pub(crate) places: Places,
     pub(crate) before: [usize; 32],
-    pub(crate) stages: [u32; 32],
 }
 
 impl Reach {
-    // What the words of the places lead to from some of them. The layer has what is left of the places found last; what
+    // What the machines lead to from some of them. The layer has what is left of the places found last; what
     // they lead to is found, and is the next layer.
-    pub(crate) fn of(next: &[Places; 32], from: Places) -> Reach
-        ensures reaches_just_what_chains_lead_to { Reached (leads_to next.now) (has from) (has result.places) (nth result.before) (nth result.stages) }
+    pub(crate) fn of(stations: &[Station; 32], from: Places) -> Reach
+        ensures reaches_just_what_chains_lead_to { Reached (leads_to stations.now) (has from) (has result.places) (nth result.before) }
     {
-        let mut reach = Reach::starting(from);
+        let mut reach = Reach {
+            places: from,
+            before: [0; 32],
+        };
         let mut layer = from;
         let mut found = Places::empty();
         while let Some(i) = layer.pop_first() {
-            let new = next[i].minus(reach.places);
+            let new = stations[i].next().minus(reach.places);
             reach.note(i, new);
             (layer, found) = next_layer(layer, found.union(new));
         }
         reach
     }
 
-    // The starts, and nothing noted.
-    fn starting(from: Places) -> Reach
-        ensures has_the_starts { result.places ≡ from }
-        ensures is_at_no_stage { (k : ℕ) → k < 32 → nth result.stages k ≡ 0 }
-    {
-        Reach {
-            places: from,
-            before: [0; 32],
-            stages: [0; 32],
-        }
-    }
-
     // Adds the new places, to which the place i leads.
     fn note(&mut self, i: usize, new: Places)
         ensures adds_the_places { (k : ℕ) → has self.new.places k ≡ (has self.old.places k || has new k) }
-        ensures notes_just_these { Noted (has new) i (size (has self.new.places)) (nth self.old.before) (nth self.old.stages) (nth self.new.before) (nth self.new.stages) }
+        ensures notes_just_these { Noted (has new) i (nth self.old.before) (nth self.new.before) }
     {
         self.places = self.places.union(new);
-        let stage = self.places.len();
         let mut left = new;
         while let Some(j) = left.pop_first() {
             self.before[j] = i;
-            self.stages[j] = stage;
         }
     }
 }

@@ -7,16 +7,15 @@
 ghost use Rattle.std.specs.Prelude.{◌≡◌, ℕ, ◌+◌, ◌-◌, ◌<◌, ◌≤◌, true, false, ◌&&◌, ◌||◌, length, IfSome, MatchOption, ◌==◌, nat_le, nat_lt};
 ghost use Rattle.places.specs.Has.{has, size};
 ghost use Rattle.theory.specs.Moves.{total_of_marks};
-ghost use Rattle.books.specs.Views.{machines_in, batches_in};
+ghost use Rattle.books.specs.Views.{machines_in};
 ghost use Rattle.shares.specs.Cells.{nth};
 ghost use Rattle.shares.specs.Levels.{ClosedBy};
 ghost use Rattle.shares.specs.Marks.{machine_at, mark_of};
-ghost use Rattle.shares.specs.Tables.{leads_to, demand_of, links};
+ghost use Rattle.shares.specs.Tables.{demand_of};
 ghost use Rattle.shares.specs.Plans.{machines_at, share, load_at, values_in, helps, Outreach, ExhaustedPlan, LatestPlan, LevelPlan};
 
 use super::Plan;
-use crate::flow::all_links;
-use crate::mark::Mark;
+use super::paced::Paced;
 use crate::reach::Reach;
 use pace::Pace;
 use places::Places;
@@ -28,37 +27,19 @@ impl Plan {
         ensures leaves_no_chain_of_so_many_blocks_that_helps { LevelPlan self.old.width (P.Pace.table pace.now) self.new }
     {
         let mut exhausted = Places::empty();
-        while let Some(i) = self.latest(pace, exhausted) {
+        while let Some(i) = self.paced(pace).latest(exhausted) {
             if let Some(more) = self.relieve(pace, exhausted, i) {
                 exhausted = more;
             }
         }
     }
 
-    // Counts links from so many blocks on.
-    pub(super) fn set_width(&mut self, width: u32)
-        requires wide { 0 < width }
-        ensures keeps_the_book { self.new.book ≡ self.old.book }
-        ensures sets_the_width { self.new.width ≡ width }
+    // Its marks by the pace.
+    fn paced<'a, P: Pace>(&'a self, pace: &'a P) -> Paced<'a, P>
+        ensures reads_the_plan { result.plan.now ≡ self.now }
+        ensures goes_by_the_pace { result.pace.now ≡ pace.now }
     {
-        let next = self.links_from(width);
-        self.width = width;
-        self.flow.next = next;
-    }
-
-    // Where the links of each machine lead, if they count from so many blocks on.
-    fn links_from(&self, width: u32) -> [Places; 32]
-        ensures has_a_word_for_each_place { length result ≡ 32 }
-        ensures holds_where_the_links_lead { (i j : ℕ) → i < machines_at self.now → leads_to result i j ≡ links width (batches_in self.now.book) (λ b. share self.now b i) j }
-    {
-        let machines = self.book.machines().len();
-        all_links(
-            &self.flow.shares,
-            &self.flow.loads,
-            machines,
-            self.book.batches(),
-            width,
-        )
+        Paced { plan: self, pace }
     }
 
     // Moves blocks from machine i along a chain that helps, past no exhausted machine. Where none helps: the exhausted
@@ -76,11 +57,9 @@ impl Plan {
         ensures exhausts_one_more_at_least { IfSome result (λ more. size (has exhausted) < size (has more)) }
     {
         let (all, reach) = self.reach_past(exhausted, i);
-        let j = self.earliest_of(pace, reach.places, i);
-        if !self.is_helped(pace, i, j, self.width) {
+        let Some((j, want)) = self.paced(pace).relief(reach.places, i) else {
             return Some(all);
-        }
-        let want = self.most(pace, i, j);
+        };
         self.augment(&reach, i, j, want);
         None
     }
@@ -91,129 +70,11 @@ impl Plan {
         requires not_exhausted { has exhausted i ≡ false }
         requires within_machines { (k : ℕ) → has exhausted k ≡ true → k < machines_at self.now }
         requires closed { ClosedBy self.now.width (machines_at self.now) (demand_of self.now.book) (share self.now) (has exhausted) }
-        ensures reaches_past_the_exhausted { Outreach self.now (has exhausted) (has result.0) (has result.1.places) i (nth result.1.before) (nth result.1.stages) }
+        ensures reaches_past_the_exhausted { Outreach self.now (has exhausted) (has result.0) (has result.1.places) i (nth result.1.before) }
     {
-        let mut reach = Reach::of(&self.flow.next, exhausted.with(i));
+        let mut reach = Reach::of(&self.stations, exhausted.with(i));
         let all = reach.places;
         reach.places = all.minus(exhausted);
         (all, reach)
-    }
-
-    // The machines that have at least `width` blocks.
-    fn laden(&self) -> Places
-        ensures holds_machines_with_enough_blocks { (i : ℕ) → has result i ≡ (nat_lt i (machines_at self.now) && nat_le self.now.width (load_at self.now i)) }
-    {
-        let mut laden = Places::empty();
-        for i in 0..self.book.machines().len() {
-            if self.flow.loads[i] >= self.width {
-                laden = laden.with(i);
-            }
-        }
-        laden
-    }
-
-    // Of the machines that are not exhausted and have `width` blocks, the one whose first of its last `width` blocks
-    // has the latest mark.
-    fn latest<P: Pace>(&self, pace: &P, exhausted: Places) -> Option<usize>
-        ensures finds_a_machine_that_is_not_exhausted { MatchOption result ((i : ℕ) → i < machines_at self.now → self.now.width ≤ load_at self.now i → has exhausted i ≡ true) (λ i. (i < machines_at self.now) × (self.now.width ≤ load_at self.now i) × (has exhausted i ≡ false)) }
-        ensures finds_the_latest { IfSome result (λ i. LatestPlan (P.Pace.table pace.now) self.now (has exhausted) i) }
-    {
-        let mut left = self.laden().minus(exhausted);
-        let first = left.pop_first()?;
-        Some(self.latest_of(pace, left, first))
-    }
-
-    // Of the given machines and the first one, all laden, the one whose first of its last `width` blocks has the
-    // latest mark.
-    fn latest_of<P: Pace>(&self, pace: &P, others: Places, first: usize) -> usize
-        requires laden { (k : ℕ) → (has others k || k == first) ≡ true → (k < machines_at self.now) × (self.now.width ≤ load_at self.now k) }
-        ensures finds_one_of_them { (has others result || result == first) ≡ true }
-        ensures finds_the_latest { (k : ℕ) → (has others k || k == first) ≡ true → values_in (P.Pace.table pace.now) self.now k (load_at self.now k - self.now.width + 1) ≤ values_in (P.Pace.table pace.now) self.now result (load_at self.now result - self.now.width + 1) }
-    {
-        let mut left = others;
-        let mut latest = first;
-        let mut mark = self.mark_back(pace, first, self.width);
-        while let Some(i) = left.pop_first() {
-            let other = self.mark_back(pace, i, self.width);
-            if mark.is_before(other) {
-                latest = i;
-                mark = other;
-            }
-        }
-        latest
-    }
-
-    // Of the given machines and the first one, the one that would end `width` blocks more at the earliest mark.
-    fn earliest_of<P: Pace>(&self, pace: &P, others: Places, first: usize) -> usize
-        requires stand { (k : ℕ) → (has others k || k == first) ≡ true → k < machines_at self.now }
-        requires few { self.now.width ≤ 1000000 }
-        ensures finds_one_of_them { (has others result || result == first) ≡ true }
-        ensures finds_the_earliest { (k : ℕ) → (has others k || k == first) ≡ true → values_in (P.Pace.table pace.now) self.now result (load_at self.now result + self.now.width) ≤ values_in (P.Pace.table pace.now) self.now k (load_at self.now k + self.now.width) }
-    {
-        let mut left = others;
-        let mut earliest = first;
-        let mut mark = self.mark_after(pace, first, self.width);
-        while let Some(j) = left.pop_first() {
-            let other = self.mark_after(pace, j, self.width);
-            if other.is_before(mark) {
-                earliest = j;
-                mark = other;
-            }
-        }
-        earliest
-    }
-
-    // Whether machine j ends its next blocks before machine i ends the first of its last so many.
-    fn is_helped<P: Pace>(&self, pace: &P, i: usize, j: usize, blocks: u32) -> bool
-        requires stand { (i < machines_at self.now) × (j < machines_at self.now) }
-        requires there { (0 < blocks) × (blocks ≤ load_at self.now i) }
-        ensures tells_whether_it_helps { result ≡ helps (P.Pace.table pace.now) self.now i j blocks }
-    {
-        let next = self.mark_after(pace, j, blocks);
-        next.is_before(self.mark_back(pace, i, blocks))
-    }
-
-    // The most blocks that it helps to move from machine i to machine j, if it helps for `width`.
-    fn most<P: Pace>(&self, pace: &P, i: usize, j: usize) -> u32
-        requires stand { (i < machines_at self.now) × (j < machines_at self.now) }
-        requires there { self.now.width ≤ load_at self.now i }
-        requires a_chain_helps { helps (P.Pace.table pace.now) self.now i j self.now.width ≡ true }
-        ensures gives_at_least_the_width { self.now.width ≤ result }
-        ensures gives_at_most_the_load { result ≤ load_at self.now i }
-        ensures gives_blocks_that_help { helps (P.Pace.table pace.now) self.now i j result ≡ true }
-    {
-        let mut low = self.width;
-        let mut high = self.flow.loads[i];
-        while low < high {
-            let middle = high - (high - low) / 2;
-            if self.is_helped(pace, i, j, middle) {
-                low = middle;
-            } else {
-                high = middle - 1;
-            }
-        }
-        low
-    }
-
-    // The mark at which the machine would end so many blocks more.
-    fn mark_after<P: Pace>(&self, pace: &P, i: usize, blocks: u32) -> Mark
-        requires stands { i < machines_at self.now }
-        requires few { blocks ≤ 1000000 }
-        ensures gives_the_mark { result ≡ mark_of (P.Pace.table pace.now) (machine_at (machines_in self.now.book) i) (load_at self.now i + blocks) }
-    {
-        Mark::of(pace, &self.book.machines()[i], self.flow.loads[i] + blocks)
-    }
-
-    // The mark of the first of the machine's last so many blocks.
-    fn mark_back<P: Pace>(&self, pace: &P, i: usize, blocks: u32) -> Mark
-        requires stands { i < machines_at self.now }
-        requires there { (0 < blocks) × (blocks ≤ load_at self.now i) }
-        ensures gives_the_mark { result ≡ mark_of (P.Pace.table pace.now) (machine_at (machines_in self.now.book) i) (load_at self.now i - blocks + 1) }
-    {
-        Mark::of(
-            pace,
-            &self.book.machines()[i],
-            self.flow.loads[i] - blocks + 1,
-        )
     }
 }

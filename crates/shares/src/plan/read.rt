@@ -1,9 +1,11 @@
 // What a plan lets read.
-ghost use Rattle.std.specs.Prelude.{◌≡◌, ◌<◌};
+ghost use Rattle.std.specs.Prelude.{◌≡◌, ℕ, ◌<◌, ◌&&◌, nat_le, nat_lt};
+ghost use Rattle.places.specs.Has.{has};
 ghost use Rattle.shares.specs.Plans.{machines_at, batches_at, share, load_at};
 
 use super::Plan;
 use books::Book;
+use places::Places;
 
 impl Plan {
     // The book whose blocks are shared out.
@@ -18,7 +20,7 @@ impl Plan {
         requires place_stands { place < machines_at self.now }
         ensures gives_the_load { result ≡ load_at self.now place }
     {
-        self.flow.loads[place]
+        self.stations[place].load()
     }
 
     // The blocks of the batch that lie at the machine.
@@ -27,6 +29,20 @@ impl Plan {
         requires place_stands { place < machines_at self.now }
         ensures gives_the_share { result ≡ share self.now batch place }
     {
-        self.flow.shares.row(place)[batch]
+        self.stations[place].blocks_of(batch)
+    }
+
+    // The machines that have at least `width` blocks.
+    pub(super) fn laden(&self) -> Places
+        ensures holds_machines_with_enough_blocks { (i : ℕ) → has result i ≡ (nat_lt i (machines_at self.now) && nat_le self.now.width (load_at self.now i)) }
+    {
+        let mut laden = Places::empty();
+        // over places, since they are what it gives: going through the stations would be no plainer
+        for i in 0..self.book.machines().len() {
+            if self.load(i) >= self.width {
+                laden = laden.with(i);
+            }
+        }
+        laden
     }
 }

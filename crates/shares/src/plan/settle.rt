@@ -1,15 +1,15 @@
 // The best share-out: a start, levelled at falling widths.
-ghost use Rattle.std.specs.Prelude.{◌≡◌, ◌<◌, length};
+ghost use Rattle.std.specs.Prelude.{◌≡◌, ℕ, ◌<◌, length};
 ghost use Rattle.places.specs.Has.{Lowest};
 ghost use Rattle.books.specs.Ranges.{holders_at};
 ghost use Rattle.books.specs.Views.{batches_in};
-ghost use Rattle.shares.specs.Cells.{nth, cell};
+ghost use Rattle.shares.specs.Stations.{station_at, cell, Led};
 ghost use Rattle.shares.specs.Plans.{LevelPlan};
 ghost use Rattle.shares.specs.Tables.{Placed};
 
 use super::Plan;
-use crate::flow::{Flow, all_links};
-use crate::table::Table;
+use crate::linking::Linking;
+use crate::station::Station;
 use books::Book;
 use pace::Pace;
 
@@ -43,21 +43,27 @@ impl Plan {
         self.level(pace);
     }
 
+    // Counts links from so many blocks on.
+    fn set_width(&mut self, width: u32)
+        requires wide { 0 < width }
+        ensures keeps_the_book { self.new.book ≡ self.old.book }
+        ensures sets_the_width { self.new.width ≡ width }
+    {
+        self.width = width;
+        let linking = Linking::of(&self.book, width);
+        find_all_links(&mut self.stations, linking);
+    }
+
     // All blocks of each batch on its first holder.
     fn start(book: Book) -> Plan
         ensures keeps_the_book { result.book ≡ book }
     {
-        let (shares, loads) = place(&book);
-        let machines = book.machines().len();
-        let next = all_links(&shares, &loads, machines, book.batches(), WIDEST);
+        let mut stations = place(&book);
+        find_all_links(&mut stations, Linking::of(&book, WIDEST));
         Plan {
             book,
             width: WIDEST,
-            flow: Flow {
-                shares,
-                loads,
-                next,
-            },
+            stations,
         }
     }
 
@@ -70,19 +76,16 @@ impl Plan {
     }
 }
 
-// All blocks of each batch at its first holder, and how many lie at each machine then.
-fn place(book: &Book) -> (Table, [u32; 32])
-    ensures gives_all_blocks_to_holders { Placed book.now (length (batches_in book.now)) (cell result.0.rows) (nth result.1) }
+// All blocks of each batch at its first holder, and no link yet.
+fn place(book: &Book) -> [Station; 32]
+    ensures has_a_station_for_each_place { length result ≡ 32 }
+    ensures gives_all_blocks_to_holders { Placed book.now (length (batches_in book.now)) (cell result) }
 {
-    let mut shares = Table::empty();
-    let mut loads = [0; 32];
-    let batches = book.batches();
-    for b in 0..batches.len() {
-        let i = first_holder(book, b);
-        shares.give(b, i, batches[b].blocks);
-        loads[i] += batches[b].blocks;
+    let mut stations = [Station::empty(); 32];
+    for (b, batch) in book.batches().iter().enumerate() {
+        stations[first_holder(book, b)].add(b, batch.blocks);
     }
-    (shares, loads)
+    stations
 }
 
 // Every batch of a book has a holder.
@@ -93,5 +96,16 @@ fn first_holder(book: &Book, batch: usize) -> usize
     match book.batches()[batch].holders.first() {
         Some(place) => place,
         None => unreachable(),
+    }
+}
+
+// Finds where the links of all machines lead.
+fn find_all_links(stations: &mut [Station; 32], linking: Linking)
+    ensures keeps_the_length { length stations.new ≡ length stations.old }
+    ensures keeps_the_blocks { (b i : ℕ) → cell stations.new b i ≡ cell stations.old b i }
+    ensures finds_where_the_links_lead { (i : ℕ) → i < 32 → Led linking.entry (station_at stations.new i) }
+{
+    for station in stations.iter_mut() {
+        station.find_links(linking);
     }
 }

@@ -7,9 +7,9 @@ use Rattle.shares.proofs.reach.Reach.note.Given as goal
 -- what was taken from the places left is noted
 abbrev pub invariant-loop-j : goal.invariant-loop-j
 invariant-loop-j l =
-    (length l.self.before ≡ 32) × (length l.self.stages ≡ 32) × (l.self.places ≡ l.initial.self.places)
+    (length l.self.before ≡ 32) × (l.self.places ≡ l.initial.self.places)
     × ((k : ℕ) → has l.left k ≡ true → has l.initial.left k ≡ true)
-    × Noted (λ k. has l.initial.left k && not (has l.left k)) l.i l.stage (nth l.initial.self.before) (nth l.initial.self.stages) (nth l.self.before) (nth l.self.stages)
+    × Noted (λ k. has l.initial.left k && not (has l.left k)) l.i (nth l.initial.self.before) (nth l.self.before)
 
 abbrev pub decreases-loop-j : goal.decreases-loop-j
 decreases-loop-j l = size (has l.left)

@@ -1,16 +1,17 @@
-use Rattle.std.proofs.Common.{◌≡◌, Bool, false, ◌||◌, ap, ◌∙◌, arith}
+use Rattle.std.proofs.Common.{◌≡◌, Bool, false, ◌||◌, refl, ap, ◌∙◌, arith}
 use Rattle.places.specs.Has.{has}
 use Rattle.places.proofs.Digits.{has_low}
-use Rattle.shares.specs.Tables.{leads_to}
-use Rattle.shares.proofs.Reaching.{searching_start, searching_same, turned, left_same}
+use Rattle.shares.specs.Stations.{station_at, leads_to}
+use Rattle.shares.proofs.Blocks.{at_place}
+use Rattle.shares.specs.declared.station.Station.{Station}
+use Rattle.shares.proofs.Reaching.{searching_start, searching_same, searched, turned, left_same}
 use Rattle.shares.proofs.reach.Reach.of.Goals as goal
 
 pub loop-i-init : goal.loop-i-init
 loop-i-init c =
     let from = c.args.from in
-    let none = c.empty-found.ensures.holds_no_place in
-    let e = c.starting-reach.ensures in (
-      rw e.has_the_starts (searching_start (leads_to c.args.next.now) (has from) _ _ _ (λ k. ap (λ t. has from k || t) (none k) ∙ or_false (has from k)) (λ k. has_low from k (omega arith)) e.is_at_no_stage),
+    let none = c.empty-found.ensures.holds_no_place in (
+      searching_start (leads_to c.args.stations.now) (has from) _ _ (λ k. ap (λ t. has from k || t) (none k) ∙ or_false (has from k)) (λ k. has_low from k (omega arith)),
       (λ k _. none k),
       (λ _ k. none k),
     )
@@ -22,8 +23,10 @@ pub loop-i-smaller : goal.loop-i-smaller
 loop-i-smaller c =
     let e = c.in-Some.ensures in
     let inv = c.loop-i.invariant in
+    let led : c.next.result ≡ (station_at c.args.stations.now c.in-Some.i).next =
+    c.next.ensures.gives_where_the_links_lead ∙ ap (λ (s : Station). s.next) (at_place c.args.stations.now c.in-Some.i _ (omega (arith, e.gives_the_lowest_place.below))) in
     let turn = turned c.in-Some.i inv.0 inv.1 e.gives_the_lowest_place.held e.takes_just_this_place
-    c.minus-new.ensures.holds_the_places_that_the_other_does_not c.note.ensures.adds_the_places c.union.ensures.holds_the_places_of_either
+    (rw led at c.minus-new.ensures.holds_the_places_that_the_other_does_not) c.note.ensures.adds_the_places c.union.ensures.holds_the_places_of_either
     (λ k. has_low c.minus-new.result k (omega arith)) c.note.ensures.notes_just_these in
     omega (arith, turn.less, left_same (has c.note.new.self.places) _ _ c.next_layer.ensures.keeps_all_places)
 
@@ -31,8 +34,16 @@ pub loop-i-preserved : goal.loop-i-preserved
 loop-i-preserved c =
     let e = c.in-Some.ensures in
     let inv = c.loop-i.invariant in
+    let led : c.next.result ≡ (station_at c.args.stations.now c.in-Some.i).next =
+    c.next.ensures.gives_where_the_links_lead ∙ ap (λ (s : Station). s.next) (at_place c.args.stations.now c.in-Some.i _ (omega (arith, e.gives_the_lowest_place.below))) in
     let turn = turned c.in-Some.i inv.0 inv.1 e.gives_the_lowest_place.held e.takes_just_this_place
-    c.minus-new.ensures.holds_the_places_that_the_other_does_not c.note.ensures.adds_the_places c.union.ensures.holds_the_places_of_either
+    (rw led at c.minus-new.ensures.holds_the_places_that_the_other_does_not) c.note.ensures.adds_the_places c.union.ensures.holds_the_places_of_either
     (λ k. has_low c.minus-new.result k (omega arith)) c.note.ensures.notes_just_these in
     let n = c.next_layer.ensures in
     (searching_same _ n.keeps_all_places turn.searching, n.keeps_both_apart turn.apart, n.has_a_layer_while_there_are_places)
+
+pub returns : goal.returns
+returns c =
+    let inv = c.loop-i.invariant in
+    let none = c.in_default.ensures.gives_the_lowest_place in
+    record { reaches_just_what_chains_lead_to = searched inv.0 (λ k. rw (none k, inv.2 none k) refl) }

@@ -1,6 +1,0 @@
-use Rattle.std.proofs.Common.{arith}
-use Rattle.shares.proofs.Planned.{load_few}
-use Rattle.shares.proofs.plan.Plan.is_helped.Goals as goal
-
-pub mark_after-next-requires : goal.mark_after-next-requires
-mark_after-next-requires g c = record { stands = c.requires.stand.1; few = omega (arith, c.requires.there.1, load_few c.args.self.now c.args.i c.requires.stand.0) }
