@@ -16,7 +16,7 @@ pub struct MachineRow {
     pub backlog: u32,
 }
 
-// The first `holder_count` of the holders count, at most 32.
+// The holders as C hands a list: the first `holder_count` of the array count, at most 32.
 #[repr(C)]
 #[derive(Clone, Copy)]
 pub struct BatchRow {
@@ -25,7 +25,7 @@ pub struct BatchRow {
     pub holders: [u16; 32],
 }
 
-// Settles by the even pace.
+// Settles by the even pace. C calls no generic function, so each pace has one of its own.
 #[unsafe(no_mangle)]
 pub extern "C" fn bench_settle_even(
     machines: &[MachineRow],
@@ -58,6 +58,7 @@ pub extern "C" fn bench_settle_backlog(
     number_of(settle(Backlog(Even), machines, batches, again, loads))
 }
 
+// C has no `Result`: 0 stands for an accepted call, and no refusal has this number.
 fn number_of(answer: Result<(), Refusal>) -> u8 {
     match answer {
         Ok(()) => 0,
@@ -93,11 +94,9 @@ fn fill<P: Meter + Drop>(
         muster.enlist(machine.number, machine.ticks, machine.lot, machine.backlog)?;
     }
     let mut open = muster.open();
-    let mut number = 1;
-    for batch in batches {
+    for (batch, number) in batches.iter().zip(1..=u32::MAX) {
         let count = batch.holder_count.min(32) as usize;
         open.hold(number, batch.blocks, &batch.holders[..count])?;
-        number += 1;
     }
     Ok(open)
 }

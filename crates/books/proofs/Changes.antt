@@ -1,238 +1,236 @@
 -- A batch that is found or missing in a sound book: what its checks ask, and what its change leaves.
-use Rattle.std.proofs.Common.{◌≡◌, ℕ, ◌+◌, ◌-◌, ◌<◌, ◌≤◌, Bool, true, false, not, ◌&&◌, eqb, ltb, leb, List, [], ◌∷◌, map, length, get_or, set, None, Decides, sym, refl, ap, ◌∙◌, ⊎_elim, arith}
-use mathlib.Core.Bool.{and-true}
+use Rattle.std.specs.Result.{result_or}
+use Rattle.std.proofs.Common.{Result, Ok, Err, MatchResult, IfOk, ◌≡◌, ℕ, ◌+◌, ◌-◌, ◌<◌, ◌≤◌, Bool, true, false, not, ◌&&◌, ltb, List, [], ◌∷◌, map, length, get_or, set, sym, refl, subst, ap, ◌∙◌, arith}
 use Rattle.std.specs.List.{insert, remove}
 use Rattle.std.proofs.lemmas.List.{length-map, map-set, set-get_or, get_or-map, get_or_default}
-use Rattle.std.proofs.lemmas.Bool.{and_parts, and_from, and_right, not_from_true, not_from_false, not-true, or_parts, or_from, ltb-false, le-ltb, eq-eqb, eqb-true, cases_Bool, both_ways}
+use Rattle.std.proofs.lemmas.List.Sums.{sum_by-insert, sum_by-remove, sum_by-set}
+use Rattle.std.proofs.lemmas.Bool.Decides.{nat_tests}
+use Rattle.std.proofs.lemmas.Bool.{and_parts, and_from, not_from_false, not-true, or_parts, ltb-false}
 use Rattle.places.specs.declared.Places.{Places}
-use Rattle.places.specs.Has.{has}
-use Rattle.books.specs.declared.machine.Machine.{Machine}
+use Rattle.places.specs.Has.{has, same_places}
+use Rattle.places.proofs.Digits.{same_places_decides}
 use Rattle.books.specs.declared.batch.Batch.{Batch}
-use Rattle.books.specs.Numbers.{among, ascending, outside, Found, Missing}
-use Rattle.books.specs.Ranges.{batch_in_range, some_below, no_batch, Manned}
-use Rattle.books.specs.Standing.{Held, machine_numbers, batch_numbers, blocks_of, holders_of, more_blocks, fewer_blocks}
-use Rattle.books.specs.declared.refusal.Refusal.TheVariants.{HolderCount, HolderOrder, MachineUnknown}
-use Rattle.books.specs.Calls.{Hold}
-use Rattle.books.specs.Refusals.{same, handed, first_of}
+use Rattle.books.specs.Numbers.{among, ascending, outside, bad_batch_number, bad_blocks, Found, Missing}
+use Rattle.books.specs.Ranges.{batch_in_range, some_below, no_batch, numbers_of}
+use Rattle.books.specs.Standing.{Held, batch_numbers, blocks_of, holders_of, more_blocks, fewer_blocks}
+use Rattle.books.specs.Refusals.{same}
 use Rattle.books.specs.Holders.{numbers_at}
-use Rattle.fixed.specs.Items.{items}
+use Rattle.books.specs.declared.refusal.Refusal.{Refusal}
 use Rattle.books.specs.declared.book.Book.{Book}
-use Rattle.books.specs.Views.{machines_of, batch_of, standing_of}
+use Rattle.books.specs.Views.{machines_in, batches_in, batch_of, standing_of, IsRead, IsAbsent}
 use Rattle.books.specs.Edits.{Sound, Asked}
-use Rattle.books.proofs.Checks.{first_passed}
 use Rattle.books.proofs.Orders.{key_at}
 use Rattle.books.proofs.Records.{found_among, missing_among, ascending_inserted, ascending_removed, all_inserted, all_removed, all_replaced, all_at}
 use Rattle.books.proofs.Holders.{numbers_same, places_same, some_held}
 use Rattle.books.proofs.Batches.{with_count, blocks_found, holders_found, blocks_missing, more_found, more_missing, fewer_some, fewer_all}
-use Rattle.books.proofs.Tables.{numbers_viewed, map_inserted, map_removed, blocks_inserted, blocks_replaced, blocks_removed, manned_inserted, manned_replaced, manned_removed}
+use Rattle.books.proofs.Tables.{numbers_viewed, map_inserted, map_removed, manned_inserted, manned_replaced, manned_removed}
 
 -- what is within a range, as a test and as an order
 pub in_range : (low high v : ℕ) → outside low high v ≡ false → (low ≤ v) × (v ≤ high)
 in_range low high v e =
     let parts = or_parts (ltb v low) (ltb high v) e in (ltb-false v low parts.0, ltb-false high v parts.1)
 
-pub range_from : (low high v : ℕ) → low ≤ v → v ≤ high → outside low high v ≡ false
-range_from low high v a b = or_from (ltb v low) (ltb high v) (le-ltb v low a) (le-ltb high v b)
-
 same_refl : (ns : List ℕ) → same ns ns ≡ true
 same_refl [] = refl
-same_refl (n ∷ ns) = and_from (eqb n n) (same ns ns) (eq-eqb n n refl) (same_refl ns)
+same_refl (n ∷ ns) = grind (arith, nat_tests, same_refl ns)
 
 same_eq : (ns ks : List ℕ) → same ns ks ≡ true → ns ≡ ks
 same_eq [] [] e = refl
-same_eq [] (k ∷ ks) e = absurd (both_ways false refl e)
-same_eq (n ∷ ns) [] e = absurd (both_ways false refl e)
-same_eq (n ∷ ns) (k ∷ ks) e =
-    let parts = and_parts (eqb n k) (same ns ks) e in
-    ap (λ (j : ℕ). j ∷ ns) (eqb-true n k parts.0) ∙ ap (λ js. k ∷ js) (same_eq ns ks parts.1)
-
-module _ (ms : List Machine) (bs : List Batch) where
-  long : length (map (batch_of ms) bs) ≡ length bs
-  long = length-map bs (batch_of ms)
-
-  module _ (b i : ℕ) (miss : Missing b (map (λ c. c.number) bs) i) where
-    missing_view : Missing b (batch_numbers (map (batch_of ms) bs)) i
-    missing_view = rw (numbers_viewed ms bs) miss
-
-    pub missing_stands : among b (batch_numbers (map (batch_of ms) bs)) ≡ false
-    missing_stands = missing_among b (batch_numbers (map (batch_of ms) bs)) i missing_view
-
-    pub missing_blocks : blocks_of b (map (batch_of ms) bs) ≡ 0
-    missing_blocks = blocks_missing b (map (batch_of ms) bs) missing_stands
-
-    pub missing_full : (is_full : Bool) → is_full ≡ leb 128 (length bs) → is_full ≡ (leb 128 (length (map (batch_of ms) bs)) && not (among b (batch_numbers (map (batch_of ms) bs))))
-    missing_full is_full e =
-        e ∙ ap (λ (n : ℕ). leb 128 n) (sym long) ∙ sym (and-true (leb 128 (length (map (batch_of ms) bs))))
-        ∙ ap (λ t. leb 128 (length (map (batch_of ms) bs)) && not t) (sym missing_stands)
-
-    module _ (n total : ℕ) (p : Places) (hs : List ℕ) (asked : Asked ms b n p hs) where
-      pub sound_inserted : Sound (length ms) bs total → Sound (length ms) (insert bs i (record { number = b; blocks = n; holders = p })) (total + n)
-      sound_inserted s =
-          record {
-            ascends = ascending_inserted (λ d. d.number) (record { number = b; blocks = n; holders = p }) bs i s.ascends miss;
-            in_range = all_inserted (batch_in_range (length ms)) bs i (record { number = b; blocks = n; holders = p }) s.in_range new_in_range;
-            manned = manned_inserted (length ms) bs i (record { number = b; blocks = n; holders = p }) s.manned asked.within;
-            summed = omega (arith, s.summed, blocks_inserted bs i (record { number = b; blocks = n; holders = p }));
-          }
-        where
-          new_in_range : batch_in_range (length ms) (record { number = b; blocks = n; holders = p }) ≡ true
-          new_in_range =
-              and_from _ _ (and_from _ _ (not_from_false _ asked.number_in_range) (not_from_false _ asked.blocks_in_range))
-              (some_held (has p) ms (omega (arith, asked.some, ap length asked.just)))
-
-      pub view_inserted : map (batch_of ms) (insert bs i (record { number = b; blocks = n; holders = p })) ≡ more_blocks b n hs (map (batch_of ms) bs)
-      view_inserted =
-          map_inserted (batch_of ms) bs i (record { number = b; blocks = n; holders = p })
-          ∙ ap (λ ks. insert (map (batch_of ms) bs) i (record { number = b; blocks = n; holders = ks })) asked.just
-          ∙ more_missing b n hs (map (batch_of ms) bs) i missing_view
-
-  module _ (b i : ℕ) (c : Batch) (f : Found b (map (λ d. d.number) bs) i) (read : c ≡ get_or bs i c) where
-    pub found_within : i < length bs
-    found_within = omega (arith, f.within, length-map bs (λ d. d.number))
-
-    number_is : c.number ≡ b
-    number_is = sym (key_at (λ d. d.number) bs i c found_within read) ∙ f.here
-
-    found_view : Found b (batch_numbers (map (batch_of ms) bs)) i
-    found_view = rw (numbers_viewed ms bs) f
-
-    view_at : get_or (map (batch_of ms) bs) i (batch_of ms c) ≡ batch_of ms c
-    view_at = get_or-map (batch_of ms) bs i c (batch_of ms c) found_within ∙ ap (batch_of ms) (sym read)
-
-    pub found_stands : among b (batch_numbers (map (batch_of ms) bs)) ≡ true
-    found_stands = found_among b (batch_numbers (map (batch_of ms) bs)) i found_view.within found_view.here
-
-    pub found_blocks : blocks_of b (map (batch_of ms) bs) ≡ c.blocks
-    found_blocks = blocks_found b (map (batch_of ms) bs) i (batch_of ms c) found_view ∙ ap (λ h. h.blocks) view_at
-
-    found_holders : holders_of b (map (batch_of ms) bs) ≡ numbers_at (has c.holders) ms
-    found_holders = holders_found b (map (batch_of ms) bs) i (batch_of ms c) found_view ∙ ap (λ h. h.holders) view_at
-
-    pub found_full : (leb 128 (length (map (batch_of ms) bs)) && not (among b (batch_numbers (map (batch_of ms) bs)))) ≡ false
-    found_full = and_right (leb 128 (length (map (batch_of ms) bs))) _ (not_from_true _ found_stands)
-
-    at_is : (d : Batch) → get_or bs i d ≡ c
-    at_is d = get_or_default bs i d c found_within ∙ sym read
-
-    held_within : Manned (length ms) bs → (k : ℕ) → has c.holders k ≡ true → k < length ms
-    held_within manned k is = manned i k (ap (λ d. has d.holders k) (at_is no_batch) ∙ is)
-
-    -- other holders: `other` is what a comparison of the two sets of places tells
-    pub found_other : (p : Places) (hs : List ℕ) → ascending (machine_numbers ms) ≡ true → Manned (length ms) bs
-        → numbers_at (has p) ms ≡ hs → ((k : ℕ) → has p k ≡ true → k < length ms)
-        → (other equal : Bool) → Decides equal ((k : ℕ) → has c.holders k ≡ has p k) → other ≡ not equal
-        → other ≡ (among b (batch_numbers (map (batch_of ms) bs)) && not (same hs (holders_of b (map (batch_of ms) bs))))
-    found_other p hs up manned just in_p other equal decides e =
-        e ∙ ap not (sym same_is) ∙ ap (λ t. t && not (same hs (holders_of b (map (batch_of ms) bs)))) (sym found_stands)
-      where
-        equal_places : equal ≡ true → same hs (holders_of b (map (batch_of ms) bs)) ≡ true
-        equal_places yes-equal =
-            ap (same hs) (found_holders ∙ numbers_same (has c.holders) (has p) ms (decides.0 yes-equal) ∙ just) ∙ same_refl hs
-
-        equal_numbers : same hs (holders_of b (map (batch_of ms) bs)) ≡ true → equal ≡ true
-        equal_numbers yes-same =
-            decides.1 (places_same (has c.holders) (has p) ms up (held_within manned) in_p
-            (sym found_holders ∙ sym (same_eq hs (holders_of b (map (batch_of ms) bs)) yes-same) ∙ sym just))
-
-        same_is : same hs (holders_of b (map (batch_of ms) bs)) ≡ equal
-        same_is =
-            ⊎_elim (λ yes-equal. equal_places yes-equal ∙ sym yes-equal)
-            (λ differ. ⊎_elim (λ yes-same. absurd (both_ways equal differ (equal_numbers yes-same))) (λ not_same. not_same ∙ sym differ)
-            (cases_Bool (same hs (holders_of b (map (batch_of ms) bs)))))
-            (cases_Bool equal)
-
-    module _ (total : ℕ) (s : Sound (length ms) bs total) where
-      -- the batch with n blocks in its place
-      pub sound_replaced : (n after : ℕ) → outside 1 99999 n ≡ false → after + c.blocks ≡ total + n
-          → Sound (length ms) (set bs i (record { number = c.number; blocks = n; holders = c.holders })) after
-      sound_replaced n after fits sums =
-          record {
-            ascends = ap ascending same_numbers ∙ s.ascends;
-            in_range = all_replaced (batch_in_range (length ms)) bs i new s.in_range
-                (and_from _ _ (and_from _ _ (and_parts _ _ old.0).0 (not_from_false _ fits)) old.1);
-            manned = manned_replaced (length ms) bs i new s.manned (held_within s.manned);
-            summed = omega (arith, s.summed, blocks_replaced bs i new c found_within, ap (λ d. d.blocks) (at_is c));
-          }
-        where
-          new : Batch
-          new = record { number = c.number; blocks = n; holders = c.holders }
-
-          same_numbers : map (λ d. d.number) (set bs i new) ≡ map (λ d. d.number) bs
-          same_numbers =
-              map-set (λ d. d.number) bs i new
-              ∙ ap (set (map (λ d. d.number) bs) i) (sym (key_at (λ d. d.number) bs i c found_within read))
-              ∙ set-get_or (map (λ d. d.number) bs) i 0
-
-          old : ((not (outside 1 99999 c.number) && not (outside 1 99999 c.blocks)) ≡ true) × (some_below (length ms) (has c.holders) ≡ true)
-          old = and_parts _ _ (ap (batch_in_range (length ms)) (sym (at_is c)) ∙ all_at (batch_in_range (length ms)) bs i c s.in_range found_within)
-
-      pub sound_removed : (after : ℕ) → after + c.blocks ≡ total → Sound (length ms) (remove bs i) after
-      sound_removed after sums =
-          record {
-            ascends = ascending_removed (λ d. d.number) bs i s.ascends;
-            in_range = all_removed (batch_in_range (length ms)) bs i s.in_range;
-            manned = manned_removed (length ms) bs i s.manned;
-            summed = omega (arith, s.summed, blocks_removed bs i c found_within, ap (λ d. d.blocks) (at_is c));
-          }
-
-      pub blocks_stand : c.blocks ≤ total
-      blocks_stand = omega (arith, s.summed, blocks_removed bs i c found_within, ap (λ d. d.blocks) (at_is c))
-
-      pub blocks_few : c.blocks ≤ 99999
-      blocks_few =
-          let old = and_parts _ _ (ap (batch_in_range (length ms)) (sym (at_is c)) ∙ all_at (batch_in_range (length ms)) bs i c s.in_range found_within) in
-          (in_range 1 99999 c.blocks (not-true _ (and_parts _ _ old.0).1)).1
-
-    -- the view of the batch with n blocks
-    view_set : (n : ℕ) (after : List Held) → set (map (batch_of ms) bs) i (with_count b (get_or (map (batch_of ms) bs) i (batch_of ms c)) n) ≡ after
-        → map (batch_of ms) (set bs i (record { number = c.number; blocks = n; holders = c.holders })) ≡ after
-    view_set n after e =
-        map-set (batch_of ms) bs i (record { number = c.number; blocks = n; holders = c.holders })
-        ∙ ap (λ (k : ℕ). set (map (batch_of ms) bs) i (record { number = k; blocks = n; holders = numbers_at (has c.holders) ms })) number_is
-        ∙ ap (λ h. set (map (batch_of ms) bs) i (with_count b h n)) (sym view_at) ∙ e
-
-    pub view_more : (n : ℕ) (hs : List ℕ)
-        → map (batch_of ms) (set bs i (record { number = c.number; blocks = c.blocks + n; holders = c.holders })) ≡ more_blocks b n hs (map (batch_of ms) bs)
-    view_more n hs =
-        view_set (c.blocks + n) (more_blocks b n hs (map (batch_of ms) bs))
-        (ap (λ (k : ℕ). set (map (batch_of ms) bs) i (with_count b (get_or (map (batch_of ms) bs) i (batch_of ms c)) (k + n))) (ap (λ h. h.blocks) (sym view_at))
-        ∙ more_found b n hs (map (batch_of ms) bs) i (batch_of ms c) found_view)
-
-    pub view_fewer : (n : ℕ) → (c.blocks ≡ n → ⊥)
-        → map (batch_of ms) (set bs i (record { number = c.number; blocks = c.blocks - n; holders = c.holders })) ≡ fewer_blocks b n (map (batch_of ms) bs)
-    view_fewer n ne =
-        view_set (c.blocks - n) (fewer_blocks b n (map (batch_of ms) bs))
-        (ap (λ (k : ℕ). set (map (batch_of ms) bs) i (with_count b (get_or (map (batch_of ms) bs) i (batch_of ms c)) (k - n))) (ap (λ h. h.blocks) (sym view_at))
-        ∙ fewer_some b n (map (batch_of ms) bs) i (batch_of ms c) found_view (λ e. ne (ap (λ h. h.blocks) (sym view_at) ∙ e)))
-
-    pub view_removed : (n : ℕ) → c.blocks ≡ n → map (batch_of ms) (remove bs i) ≡ fewer_blocks b n (map (batch_of ms) bs)
-    view_removed n e =
-        map_removed (batch_of ms) bs i ∙ fewer_all b n (map (batch_of ms) bs) i (batch_of ms c) found_view (ap (λ h. h.blocks) view_at ∙ e)
+same_eq [] (k ∷ ks) e = grind (arith, e)
+same_eq (n ∷ ns) [] e = grind (arith, e)
+same_eq (n ∷ ns) (k ∷ ks) e = grind (arith, nat_tests, e, same_eq ns ks)
 
 -- what the type of a book keeps
-pub kept : (b : Book) → Sound (length (machines_of b.roster)) (items b.batches) b.blocks
-kept b = record { ascends = b.ascends; in_range = b.in_range; manned = b.manned; summed = b.summed }
+kept : (k : Book) → Sound (length (machines_in k)) (batches_in k) k.blocks
+kept k = record { ascends = k.ascends; in_range = k.in_range; manned = k.manned; summed = k.summed }
+
+-- the batch b is none of the book k, and would stand at the place i
+pub record Lacks (k : Book) (b i : ℕ) : Type 0 where
+  pub missing : Missing b (numbers_of (batches_in k)) i
+
+module _ {k : Book} {b i : ℕ} (lacks : Lacks k b i) where
+  missing_view : Missing b (batch_numbers (standing_of k).batches) i
+  missing_view = rw (numbers_viewed (machines_in k) (batches_in k)) lacks.missing
+
+  pub missing_stands : among b (batch_numbers (standing_of k).batches) ≡ false
+  missing_stands = missing_among b (batch_numbers (standing_of k).batches) i missing_view
+
+  pub missing_blocks : blocks_of b (standing_of k).batches ≡ 0
+  missing_blocks = blocks_missing b (standing_of k).batches missing_stands
+
+  module _ {n : ℕ} {p : Places} {hs : List ℕ} (asked : Asked (machines_in k) b n p hs) where
+    pub sound_inserted : Sound (length (machines_in k)) (insert (batches_in k) i (record { number = b; blocks = n; holders = p })) (k.blocks + n)
+    sound_inserted =
+        record {
+          ascends = ascending_inserted (λ d. d.number) new (batches_in k) i k.ascends lacks.missing;
+          in_range = all_inserted (batch_in_range (length (machines_in k))) (batches_in k) i new k.in_range
+              (and_from _ _ (and_from _ _ (not_from_false _ asked.number_in_range) (not_from_false _ asked.blocks_in_range))
+              (some_held (has p) (machines_in k) (omega (arith, asked.some, ap length asked.just))));
+          manned = manned_inserted (length (machines_in k)) (batches_in k) i new k.manned asked.within;
+          summed = omega (arith, k.summed, sum_by-insert (λ d. d.blocks) (batches_in k) i new);
+        }
+      where
+        new : Batch
+        new = record { number = b; blocks = n; holders = p }
+
+    pub view_inserted : map (batch_of (machines_in k)) (insert (batches_in k) i (record { number = b; blocks = n; holders = p })) ≡ more_blocks b n hs (standing_of k).batches
+    view_inserted =
+        map_inserted (batch_of (machines_in k)) (batches_in k) i (record { number = b; blocks = n; holders = p })
+        ∙ ap (λ ks. insert (standing_of k).batches i (record { number = b; blocks = n; holders = ks })) asked.just
+        ∙ more_missing b n hs (standing_of k).batches i missing_view
+
+-- the batch b of the book k is c, and stands at the place i
+pub record Stands (k : Book) (b i : ℕ) (c : Batch) : Type 0 where
+  pub found : Found b (numbers_of (batches_in k)) i
+  pub read : c ≡ get_or (batches_in k) i c
+
+-- a batch that was found, where a refusal would have told that there is none
+pub stands_or : (k : Book) {b i : ℕ} {c : Batch} (unknown : Refusal) (r : Result (ℕ × Batch) ℕ) → Ok (i, c) ≡ result_or r (Err unknown)
+    → MatchResult r (λ p. Found b (numbers_of (batches_in k)) p.0) (Missing b (numbers_of (batches_in k)))
+    → IfOk r (λ p. p.1 ≡ get_or (batches_in k) p.0 p.1) → Stands k b i c
+stands_or k {b} {i} {c} unknown (Ok p) is found read =
+    let at_p : Stands k b p.0 p.1 = record { found = found; read = read } in
+    let same : p ≡ (i, c) = cc in
+    rw same at at_p
+stands_or k unknown (Err j) is found read = grind (arith, is)
+
+module _ {k : Book} {b i : ℕ} {c : Batch} (here : Stands k b i c) where
+  pub found_within : i < length (batches_in k)
+  found_within = omega (arith, here.found.within, length-map (batches_in k) (λ d. d.number))
+
+  number_is : c.number ≡ b
+  number_is = sym (key_at (λ d. d.number) (batches_in k) i c found_within here.read) ∙ here.found.here
+
+  found_view : Found b (batch_numbers (standing_of k).batches) i
+  found_view = rw (numbers_viewed (machines_in k) (batches_in k)) here.found
+
+  view_at : get_or (standing_of k).batches i (batch_of (machines_in k) c) ≡ batch_of (machines_in k) c
+  view_at = get_or-map (batch_of (machines_in k)) (batches_in k) i c (batch_of (machines_in k) c) found_within ∙ ap (batch_of (machines_in k)) (sym here.read)
+
+  pub found_stands : among b (batch_numbers (standing_of k).batches) ≡ true
+  found_stands = found_among b (batch_numbers (standing_of k).batches) i found_view.within found_view.here
+
+  pub found_blocks : blocks_of b (standing_of k).batches ≡ c.blocks
+  found_blocks = blocks_found b (standing_of k).batches i (batch_of (machines_in k) c) found_view ∙ ap (λ h. h.blocks) view_at
+
+  found_holders : holders_of b (standing_of k).batches ≡ numbers_at (has c.holders) (machines_in k)
+  found_holders = holders_found b (standing_of k).batches i (batch_of (machines_in k) c) found_view ∙ ap (λ h. h.holders) view_at
+
+  at_is : (d : Batch) → get_or (batches_in k) i d ≡ c
+  at_is d = get_or_default (batches_in k) i d c found_within ∙ sym here.read
+
+  held_within : (q : ℕ) → has c.holders q ≡ true → q < length (machines_in k)
+  held_within q is = k.manned i q (ap (λ d. has d.holders q) (at_is no_batch) ∙ is)
+
+  -- other places are other holders
+  pub found_other : {n : ℕ} {p : Places} {hs : List ℕ} → Asked (machines_in k) b n p hs
+      → not (same_places c.holders p) ≡ (among b (batch_numbers (standing_of k).batches) && not (same hs (holders_of b (standing_of k).batches)))
+  found_other {p} {hs} asked = grind (arith, same_is, found_stands)
+    where
+      equal : Bool
+      equal = same_places c.holders p
+
+      equal_places : equal ≡ true → same hs (holders_of b (standing_of k).batches) ≡ true
+      equal_places yes-equal =
+          ap (same hs) (found_holders ∙ numbers_same (has c.holders) (has p) (machines_in k) ((same_places_decides c.holders p).0 yes-equal) ∙ asked.just) ∙ same_refl hs
+
+      equal_numbers : same hs (holders_of b (standing_of k).batches) ≡ true → equal ≡ true
+      equal_numbers yes-same =
+          (same_places_decides c.holders p).1 (places_same (has c.holders) (has p) (machines_in k) k.roster.ascends held_within asked.within
+          (sym found_holders ∙ sym (same_eq hs (holders_of b (standing_of k).batches) yes-same) ∙ sym asked.just))
+
+      same_is : same hs (holders_of b (standing_of k).batches) ≡ equal
+      same_is = grind (arith, equal_places, equal_numbers)
+
+  -- the batch with n blocks in its place
+  pub sound_replaced : (n after : ℕ) → outside 1 99999 n ≡ false → after + c.blocks ≡ k.blocks + n
+      → Sound (length (machines_in k)) (set (batches_in k) i (record { number = c.number; blocks = n; holders = c.holders })) after
+  sound_replaced n after fits sums =
+      record {
+        ascends = ap ascending same_numbers ∙ k.ascends;
+        in_range = all_replaced (batch_in_range (length (machines_in k))) (batches_in k) i new k.in_range
+            (and_from _ _ (and_from _ _ (and_parts _ _ old.0).0 (not_from_false _ fits)) old.1);
+        manned = manned_replaced (length (machines_in k)) (batches_in k) i new k.manned held_within;
+        summed = omega (arith, k.summed, sum_by-set (λ d. d.blocks) (batches_in k) i new c found_within, ap (λ d. d.blocks) (at_is c));
+      }
+    where
+      new : Batch
+      new = record { number = c.number; blocks = n; holders = c.holders }
+
+      same_numbers : map (λ d. d.number) (set (batches_in k) i new) ≡ map (λ d. d.number) (batches_in k)
+      same_numbers =
+          map-set (λ d. d.number) (batches_in k) i new
+          ∙ ap (set (map (λ d. d.number) (batches_in k)) i) (sym (key_at (λ d. d.number) (batches_in k) i c found_within here.read))
+          ∙ set-get_or (map (λ d. d.number) (batches_in k)) i 0
+
+      old : ((not (outside 1 99999 c.number) && not (outside 1 99999 c.blocks)) ≡ true) × (some_below (length (machines_in k)) (has c.holders) ≡ true)
+      old = and_parts _ _ (ap (batch_in_range (length (machines_in k))) (sym (at_is c)) ∙ all_at (batch_in_range (length (machines_in k))) (batches_in k) i c k.in_range found_within)
+
+  pub sound_removed : (after : ℕ) → after + c.blocks ≡ k.blocks → Sound (length (machines_in k)) (remove (batches_in k) i) after
+  sound_removed after sums =
+      record {
+        ascends = ascending_removed (λ d. d.number) (batches_in k) i k.ascends;
+        in_range = all_removed (batch_in_range (length (machines_in k))) (batches_in k) i k.in_range;
+        manned = manned_removed (length (machines_in k)) (batches_in k) i k.manned;
+        summed = omega (arith, k.summed, sum_by-remove (λ d. d.blocks) (batches_in k) i c found_within, ap (λ d. d.blocks) (at_is c));
+      }
+
+  pub blocks_stand : c.blocks ≤ k.blocks
+  blocks_stand = omega (arith, k.summed, sum_by-remove (λ d. d.blocks) (batches_in k) i c found_within, ap (λ d. d.blocks) (at_is c))
+
+  pub blocks_few : c.blocks ≤ 99999
+  blocks_few =
+      let old = and_parts _ _ (ap (batch_in_range (length (machines_in k))) (sym (at_is c)) ∙ all_at (batch_in_range (length (machines_in k))) (batches_in k) i c k.in_range found_within) in
+      (in_range 1 99999 c.blocks (not-true _ (and_parts _ _ old.0).1)).1
+
+  -- the view of the batch with n blocks
+  view_set : (n : ℕ) (after : List Held) → set (standing_of k).batches i (with_count b (get_or (standing_of k).batches i (batch_of (machines_in k) c)) n) ≡ after
+      → map (batch_of (machines_in k)) (set (batches_in k) i (record { number = c.number; blocks = n; holders = c.holders })) ≡ after
+  view_set n after e =
+      map-set (batch_of (machines_in k)) (batches_in k) i (record { number = c.number; blocks = n; holders = c.holders })
+      ∙ ap (λ (q : ℕ). set (standing_of k).batches i (record { number = q; blocks = n; holders = numbers_at (has c.holders) (machines_in k) })) number_is
+      ∙ ap (λ h. set (standing_of k).batches i (with_count b h n)) (sym view_at) ∙ e
+
+  pub view_more : (n : ℕ) (hs : List ℕ)
+      → map (batch_of (machines_in k)) (set (batches_in k) i (record { number = c.number; blocks = c.blocks + n; holders = c.holders })) ≡ more_blocks b n hs (standing_of k).batches
+  view_more n hs =
+      view_set (c.blocks + n) (more_blocks b n hs (standing_of k).batches)
+      (ap (λ (q : ℕ). set (standing_of k).batches i (with_count b (get_or (standing_of k).batches i (batch_of (machines_in k) c)) (q + n))) (ap (λ h. h.blocks) (sym view_at))
+      ∙ more_found b n hs (standing_of k).batches i (batch_of (machines_in k) c) found_view)
+
+  pub view_fewer : (n : ℕ) → (c.blocks ≡ n → ⊥)
+      → map (batch_of (machines_in k)) (set (batches_in k) i (record { number = c.number; blocks = c.blocks - n; holders = c.holders })) ≡ fewer_blocks b n (standing_of k).batches
+  view_fewer n ne =
+      view_set (c.blocks - n) (fewer_blocks b n (standing_of k).batches)
+      (ap (λ (q : ℕ). set (standing_of k).batches i (with_count b (get_or (standing_of k).batches i (batch_of (machines_in k) c)) (q - n))) (ap (λ h. h.blocks) (sym view_at))
+      ∙ fewer_some b n (standing_of k).batches i (batch_of (machines_in k) c) found_view (λ e. ne (ap (λ h. h.blocks) (sym view_at) ∙ e)))
+
+  pub view_removed : (n : ℕ) → c.blocks ≡ n → map (batch_of (machines_in k)) (remove (batches_in k) i) ≡ fewer_blocks b n (standing_of k).batches
+  view_removed n e =
+      map_removed (batch_of (machines_in k)) (batches_in k) i ∙ fewer_all b n (standing_of k).batches i (batch_of (machines_in k) c) found_view (ap (λ h. h.blocks) view_at ∙ e)
+
+-- what a search in the batches, as they are lent, tells of what stands
+module _ (k : Book) {bs : List Batch} (lent : bs ≡ batches_in k) {n i : ℕ} where
+  pub read_at : (d : Batch) → i < length bs → (ascending (numbers_of bs) ≡ true → Found n (numbers_of bs) i) → IsRead (standing_of k) n (get_or bs i d)
+  read_at d = subst (λ cs. i < length cs → (ascending (numbers_of cs) ≡ true → Found n (numbers_of cs) i) → IsRead (standing_of k) n (get_or cs i d)) (sym lent) (λ lt found.
+      let here : Stands k n i (get_or (batches_in k) i d) = record { found = found k.ascends; read = get_or_default (batches_in k) i d _ lt } in
+      record { stands = found_stands here; blocks = found_blocks here; holders = found_holders here })
+
+  pub missing_at : (ascending (numbers_of bs) ≡ true → Missing n (numbers_of bs) i) → IsAbsent (standing_of k) n
+  missing_at = subst (λ cs. (ascending (numbers_of cs) ≡ true → Missing n (numbers_of cs) i) → IsAbsent (standing_of k) n) (sym lent) (λ missing.
+      let lacks : Lacks k n i = record { missing = missing k.ascends } in
+      record { stands_not = missing_stands lacks; no_blocks = missing_blocks lacks })
 
 -- what a hold asks for once its ranges and its holders are checked
-pub asked_from : (ms : List Machine) (bs : List Held) (b n : ℕ) (p : Places) (hs : List ℕ)
-    → true ≡ (not (outside 1 99999 b) && not (outside 1 99999 n))
-    → None ≡ first_of (HolderCount ∷ HolderOrder ∷ MachineUnknown ∷ []) (handed (Hold b n hs)) (record { machines = ms; batches = bs })
-    → numbers_at (has p) ms ≡ hs → ((k : ℕ) → has p k ≡ true → k < length ms) → Asked ms b n p hs
-asked_from ms bs b n p hs ranges holders just inside =
-    let parts = and_parts (not (outside 1 99999 b)) (not (outside 1 99999 n)) (sym ranges) in
+pub asked_from : (k : Book) {b n : ℕ} {p : Places} {hs : List ℕ} → true ≡ (not (bad_batch_number b) && not (bad_blocks n))
+    → outside 1 32 (length hs) ≡ false
+    → numbers_at (has p) (machines_in k) ≡ hs → ((i : ℕ) → has p i ≡ true → i < length (machines_in k)) → Asked (machines_in k) b n p hs
+asked_from k {b} {n} {p} {hs} ranges few just inside =
+    let parts = and_parts (not (bad_batch_number b)) (not (bad_blocks n)) (sym ranges) in
     record {
       number_in_range = not-true _ parts.0;
       blocks_in_range = not-true _ parts.1;
-      some = (in_range 1 32 (length hs)
-          (first_passed HolderCount (HolderOrder ∷ MachineUnknown ∷ []) (handed (Hold b n hs)) (record { machines = ms; batches = bs }) holders)).0;
+      some = (in_range 1 32 (length hs) few).0;
       just = just;
       within = inside;
     }
-
--- a book with the same machines and these batches
-pub standing_written : (old new : Book) (bs : List Batch) (after : List Held) → items new.batches ≡ bs → new.roster ≡ old.roster
-    → map (batch_of (machines_of old.roster)) bs ≡ after → standing_of new ≡ record { machines = machines_of old.roster; batches = after }
-standing_written old new bs after written machines view =
-    ap (λ r. record { machines = machines_of r; batches = map (batch_of (machines_of r)) (items new.batches) }) machines
-    ∙ ap (λ cs. record { machines = machines_of old.roster; batches = map (batch_of (machines_of old.roster)) cs }) written
-    ∙ ap (λ hs. record { machines = machines_of old.roster; batches = hs }) view

@@ -1,9 +1,9 @@
 -- Sets of places and the numbers of the machines there.
 use Rattle.std.proofs.Common.{◌≡◌, ℕ, zero, suc, ◌+◌, ◌<◌, ◌≤◌, Bool, true, false, cond, ◌&&◌, ◌||◌, eqb, ◌⊎◌, List, [], ◌∷◌, ◌++◌, length, get_or, take, drop, sym, refl, ap, ◌∙◌, inl, inr, ⊎_elim, arith}
 use mathlib.Core.Bool.{or-false}
-use Rattle.std.proofs.lemmas.Bool.{cond-true, cond-false, eq-eqb, ne_eqb, eqb-true, or_left, or_right, or_from, or_cases, and_left, or_parts, both_ways, cases_Bool, cases_lt, cases_eq, cases_order}
+use Rattle.std.proofs.lemmas.Bool.{cond-true, ne_eqb, eqb-true, or_right, or_from, or_cases, and_left, or_parts, both_ways, cases_Bool, cases_lt, cases_eq, cases_order}
 use Rattle.std.proofs.lemmas.Bool.Decides.{nat_tests}
-use Rattle.std.proofs.lemmas.List.{get_or-take, length-take, length-map, take_more, drop_more, drop_all}
+use Rattle.std.proofs.lemmas.List.{get_or-take, length-take, length-map, take_more, drop_more}
 use Rattle.books.specs.declared.machine.Machine.{Machine}
 use Rattle.books.specs.Numbers.{among, ascending, Found}
 use Rattle.books.specs.Standing.{machine_numbers}
@@ -23,7 +23,7 @@ among_at n (k ∷ ks) is =
 
 numbers_none : (held : ℕ → Bool) (ms : List Machine) → ((k : ℕ) → k < length ms → held k ≡ false) → numbers_at held ms ≡ []
 numbers_none held [] none = refl
-numbers_none held (m ∷ ms) none = cond-false (held 0) _ _ (none 0 (omega arith)) ∙ numbers_none (λ i. held (suc i)) ms (λ k lt. none (suc k) (omega arith))
+numbers_none held (m ∷ ms) none = grind (arith, none 0 (omega arith), numbers_none (λ i. held (suc i)) ms (λ k lt. none (suc k) (omega arith)))
 
 -- one number more in front, where the test says so
 put : Bool → ℕ → List ℕ → List ℕ
@@ -36,7 +36,7 @@ put_append false n xs ys zs e = e
 
 put_among : (b : Bool) (n k : ℕ) (ns : List ℕ) → among k ns ≡ true → among k (put b n ns) ≡ true
 unfolding put
-put_among true n k ns is = or_right (eqb n k) (among k ns) is
+put_among true n k ns is = grind (arith, is)
 put_among false n k ns is = is
 
 eqb_suc : (k i : ℕ) → eqb (suc k) (suc i) ≡ eqb k i
@@ -62,8 +62,7 @@ numbers_among : (held : ℕ → Bool) (ms : List Machine) (k : ℕ) → k < leng
 unfolding put
 numbers_among held [] k lt is = absurd (omega arith)
 numbers_among held (m ∷ ms) zero lt is =
-    ap (λ b. among m.number (put b m.number (numbers_at (λ i. held (suc i)) ms))) is
-    ∙ or_left (eqb m.number m.number) (among m.number (numbers_at (λ i. held (suc i)) ms)) (eq-eqb m.number m.number refl)
+    grind (arith, nat_tests, is)
 numbers_among held (m ∷ ms) (suc k) lt is =
     put_among (held 0) m.number (get_or (machine_numbers ms) k 0) (numbers_at (λ i. held (suc i)) ms) (numbers_among (λ i. held (suc i)) ms k (omega arith) is)
 
@@ -83,9 +82,6 @@ pub record Gathered (ms : List Machine) (ns : List ℕ) (held : ℕ → Bool) (j
 module _ (ms : List Machine) (ns : List ℕ) (held : ℕ → Bool) where
   pub gathered_none : ((k : ℕ) → held k ≡ false) → Gathered ms ns held 0
   gathered_none none = record { left = refl; just = λ up. numbers_none held ms (λ k few. none k); within = λ k is. absurd (both_ways (held k) (none k) is) }
-
-  pub gathered_all : (j : ℕ) → length ns ≤ j → Gathered ms ns held j → all_among ns (machine_numbers ms) ≡ true
-  gathered_all j ge g = g.left ∙ ap (λ ks. all_among ks (machine_numbers ms)) (drop_all j ns ge)
 
   module _ (j : ℕ) (lt : j < length ns) (g : Gathered ms ns held j) where
     left_at : all_among ns (machine_numbers ms) ≡ (among (get_or ns j 0) (machine_numbers ms) && all_among (drop (j + 1) ns) (machine_numbers ms))
@@ -188,4 +184,4 @@ some_from held (suc n) none k lt =
 
 pub some_held : (held : ℕ → Bool) (ms : List Machine) → 1 ≤ length (numbers_at held ms) → some_below (length ms) held ≡ true
 some_held held ms some =
-    ⊎_elim (λ is. is) (λ none. absurd (omega (arith, ap length (numbers_none held ms (some_from held (length ms) none))))) (cases_Bool (some_below (length ms) held))
+    grind (arith, λ (none : some_below (length ms) held ≡ false). ap length (numbers_none held ms (some_from held (length ms) none)))

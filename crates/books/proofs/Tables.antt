@@ -1,7 +1,8 @@
--- The batches of a book: what a write at one place leaves of their sum, their holders and their view.
-use Rattle.std.proofs.Common.{◌≡◌, ℕ, zero, suc, ◌+◌, ◌<◌, true, List, [], ◌∷◌, ◌++◌, map, length, get_or, take, drop, set, sym, refl, ap, ◌∙◌, arith}
+-- The batches of a book: what a write at one place leaves of their holders and their view.
+use Rattle.std.proofs.Common.{◌≡◌, ℕ, zero, suc, ◌<◌, true, List, [], ◌∷◌, ◌++◌, map, take, drop, set, sym, refl, ap, ◌∙◌, arith}
 use Rattle.std.specs.List.{insert, remove}
 use Rattle.std.proofs.lemmas.List.{map-append, take-map, drop-map}
+use Rattle.std.proofs.lemmas.List.Sums.{sum_by-cons}
 use Rattle.std.proofs.lemmas.Bool.{both_ways}
 use Rattle.places.specs.Has.{has}
 use Rattle.places.proofs.Digits.{has_none}
@@ -18,7 +19,7 @@ numbers_viewed ms (b ∷ bs) = ap (λ ns. b.number ∷ ns) (numbers_viewed ms bs
 
 pub blocks_viewed : (ms : List Machine) (bs : List Batch) → all_blocks (map (batch_of ms) bs) ≡ blocks_in bs
 blocks_viewed ms [] = refl
-blocks_viewed ms (b ∷ bs) = ap (λ (n : ℕ). b.blocks + n) (blocks_viewed ms bs)
+blocks_viewed ms (b ∷ bs) = omega (arith, sum_by-cons (λ h. h.blocks) (batch_of ms b) (map (batch_of ms) bs), sum_by-cons (λ c. c.blocks) b bs, blocks_viewed ms bs)
 
 pub map_inserted : {X Y : Type 0} (f : X → Y) (xs : List X) (i : ℕ) (x : X) → map f (insert xs i x) ≡ insert (map f xs) i (f x)
 map_inserted f xs i x =
@@ -29,22 +30,6 @@ pub map_removed : {X Y : Type 0} (f : X → Y) (xs : List X) (i : ℕ) → map f
 map_removed f xs i =
     map-append f (take i xs) (drop (suc i) xs) ∙ ap (λ ys. ys ++ map f (drop (suc i) xs)) (sym (take-map f i xs))
     ∙ ap (λ ys. take i (map f xs) ++ ys) (sym (drop-map f (suc i) xs))
-
--- the sum of the blocks
-pub blocks_inserted : (bs : List Batch) (i : ℕ) (b : Batch) → blocks_in (insert bs i b) ≡ blocks_in bs + b.blocks
-blocks_inserted bs zero b = omega arith
-blocks_inserted [] (suc i) b = omega arith
-blocks_inserted (c ∷ cs) (suc i) b = omega (arith, blocks_inserted cs i b)
-
-pub blocks_replaced : (bs : List Batch) (i : ℕ) (b d : Batch) → i < length bs → blocks_in (set bs i b) + (get_or bs i d).blocks ≡ blocks_in bs + b.blocks
-blocks_replaced [] i b d lt = absurd (omega arith)
-blocks_replaced (c ∷ cs) zero b d lt = omega arith
-blocks_replaced (c ∷ cs) (suc i) b d lt = omega (arith, blocks_replaced cs i b d (omega arith))
-
-pub blocks_removed : (bs : List Batch) (i : ℕ) (d : Batch) → i < length bs → blocks_in (remove bs i) + (get_or bs i d).blocks ≡ blocks_in bs
-blocks_removed [] i d lt = absurd (omega arith)
-blocks_removed (c ∷ cs) zero d lt = omega arith
-blocks_removed (c ∷ cs) (suc i) d lt = omega (arith, blocks_removed cs i d (omega arith))
 
 -- all holders are machines
 module _ (n : ℕ) where

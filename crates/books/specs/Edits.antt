@@ -4,14 +4,14 @@
 --   Sound n bs blocks     what the type of a book with n machines keeps of its batches bs, which have so many blocks
 --   Asked ..              blocks for a batch, both in range, with the places of the machines that are to hold it
 use Rattle.std.specs.Prelude.{◌≡◌, ℕ, ◌<◌, ◌≤◌, true, false, List, length, slice_set}
-use Rattle.std.specs.List.{insert, remove}
+use Rattle.std.specs.List.{insert, remove, list_all}
 use Rattle.places.specs.declared.Places.{Places}
 use Rattle.places.specs.Has.{has}
 use Rattle.books.specs.declared.machine.Machine.{Machine}
 use Rattle.books.specs.declared.batch.Batch.{Batch}
 use Rattle.books.specs.declared.edit.Edit.{Edit}
 use Rattle.books.specs.declared.edit.Edit.TheVariants.{Insert, Replace, Remove}
-use Rattle.books.specs.Numbers.{all, ascending, bad_batch_number, bad_blocks}
+use Rattle.books.specs.Numbers.{ascending, bad_batch_number, bad_blocks}
 use Rattle.books.specs.Ranges.{batch_in_range, Manned, numbers_of, blocks_in}
 use Rattle.books.specs.Holders.{numbers_at}
 
@@ -27,7 +27,7 @@ CanBeMade (Remove i) bs = i < length bs
 
 pub record Sound (n : ℕ) (bs : List Batch) (blocks : ℕ) : Type 0 where
   pub ascends : ascending (numbers_of bs) ≡ true
-  pub in_range : all (batch_in_range n) bs ≡ true
+  pub in_range : list_all (batch_in_range n) bs ≡ true
   pub manned : Manned n bs
   pub summed : blocks_in bs ≡ blocks
 

@@ -1,16 +1,15 @@
 -- Numbers: their ranges, and lists of them as the machines and the batches of a book have them.
 --   among n ns            n is one of ns
 --   ascending ns          each number is below the next one
---   all p xs              each of xs passes the test p
 --   outside low high v    v is below low or above high
 --   bad_machine_number n, bad_ticks n, bad_lot n, bad_backlog n, bad_batch_number n, bad_blocks n    n is outside its range
 --   Found n ns i          n stands at the place i
 --   Missing n ns i        n is none of ns, and would stand at the place i
-use Rattle.std.specs.Prelude.{◌≡◌, ℕ, ◌<◌, ◌≤◌, Bool, true, false, ◌&&◌, ◌||◌, List, [], ◌∷◌, length, ◌==◌, nat_lt, slice_index, slice_index_or}
+use Rattle.std.specs.Prelude.{◌≡◌, ℕ, ◌<◌, ◌≤◌, Bool, true, ◌&&◌, ◌||◌, List, [], ◌∷◌, length, ◌==◌, nat_lt, slice_index, slice_index_or}
+use Rattle.std.specs.List.{list_any}
 
 abbrev pub among : ℕ → List ℕ → Bool
-among n [] = false
-among n (k ∷ ks) = k == n || among n ks
+among n ns = list_any (λ k. k == n) ns
 
 -- the list goes on upward from n
 abbrev pub rising : ℕ → List ℕ → Bool
@@ -20,10 +19,6 @@ rising n (k ∷ ks) = nat_lt n k && rising k ks
 abbrev pub ascending : List ℕ → Bool
 ascending [] = true
 ascending (n ∷ ns) = rising n ns
-
-abbrev pub all : {R : Type 0} → (R → Bool) → List R → Bool
-all p [] = true
-all p (x ∷ xs) = p x && all p xs
 
 abbrev pub outside : ℕ → ℕ → ℕ → Bool
 outside low high v = nat_lt v low || nat_lt high v

@@ -6,7 +6,7 @@
 --   Manned n bs            each holder of each batch is one of n machines
 --   numbers_of bs          the numbers of the batches
 --   blocks_in bs           the blocks of all batches
-use Rattle.std.specs.Prelude.{◌≡◌, ℕ, zero, suc, ◌+◌, ◌<◌, Bool, true, false, not, ◌&&◌, ◌||◌, List, [], ◌∷◌, map, slice_index_or}
+use Rattle.std.specs.Prelude.{◌≡◌, ℕ, zero, suc, ◌<◌, Bool, true, false, not, ◌&&◌, ◌||◌, List, map, sum_by, slice_index_or}
 use Rattle.places.specs.declared.Places.{Places}
 use Rattle.places.specs.Has.{has, no_places}
 use Rattle.books.specs.declared.machine.Machine.{Machine}
@@ -39,5 +39,4 @@ abbrev pub numbers_of : List Batch → List ℕ
 numbers_of bs = map (λ b. b.number) bs
 
 abbrev pub blocks_in : List Batch → ℕ
-blocks_in [] = 0
-blocks_in (b ∷ bs) = b.blocks + blocks_in bs
+blocks_in bs = sum_by (λ b. b.blocks) bs

@@ -3,11 +3,12 @@
 --   checks c             the refusals of the call c, in the order in which they are checked
 --   first_refusal c s    the first check of the call c that applies at what stands, if one does
 --   refusal_in r         the refusal that a call answered, if it did
-use Rattle.std.specs.Prelude.{ℕ, ◌+◌, Bool, true, false, cond, not, ◌&&◌, List, [], ◌∷◌, length, Some, None, Ok, Err, Option, Result, ◌==◌, nat_le, nat_lt}
+use Rattle.std.specs.Prelude.{ℕ, ◌+◌, Bool, true, false, if◌then◌else◌, not, ◌&&◌, List, [], ◌∷◌, length, Some, None, Ok, Err, Option, Result, ◌==◌, nat_le, nat_lt}
+use Rattle.std.specs.List.{list_all}
 use Rattle.books.specs.declared.machine.Machine.{Machine}
 use Rattle.books.specs.declared.refusal.Refusal.{Refusal}
 use Rattle.books.specs.declared.refusal.Refusal.TheVariants.{MachineNumber, Ticks, Lot, Backlog, BatchNumber, Blocks, HolderCount, HolderOrder, MachineStands, MachinesFull, MachineUnknown, BatchesFull, OtherHolders, BatchPasses, BookPasses, BatchUnknown, BatchFewer, NoBlock}
-use Rattle.books.specs.Numbers.{all, among, ascending, outside, bad_machine_number, bad_ticks, bad_lot, bad_backlog, bad_batch_number, bad_blocks}
+use Rattle.books.specs.Numbers.{among, ascending, outside, bad_machine_number, bad_ticks, bad_lot, bad_backlog, bad_batch_number, bad_blocks}
 use Rattle.books.specs.Standing.{Standing, machine_numbers, batch_numbers, blocks_of, holders_of, all_blocks}
 use Rattle.books.specs.Calls.{Call, Enlist, Open, Hold, Drop, machine_with}
 
@@ -26,7 +27,7 @@ handed (Drop b n) = record { machine = machine_with 0 0 0 0; batch = b; blocks =
 
 -- all the numbers are those of machines that stand
 abbrev pub all_among : List ℕ → List ℕ → Bool
-all_among ns ms = all (λ n. among n ms) ns
+all_among ns ms = list_all (λ n. among n ms) ns
 
 -- the same numbers in the same order
 abbrev pub same : List ℕ → List ℕ → Bool
@@ -70,7 +71,7 @@ checks (Drop _ _) = BatchNumber ∷ Blocks ∷ BatchUnknown ∷ BatchFewer ∷ [
 
 abbrev pub first_of : List Refusal → Handed → Standing → Option Refusal
 first_of [] h s = None
-first_of (r ∷ rs) h s = cond ((case_of r).applies h s) (Some r) (first_of rs h s)
+first_of (r ∷ rs) h s = if (case_of r).applies h s then Some r else first_of rs h s
 
 abbrev pub first_refusal : Call → Standing → Option Refusal
 first_refusal c s = first_of (checks c) (handed c) s

@@ -8,7 +8,7 @@
 --   with_machine m ms           ms and the machine m, at its place
 --   more_blocks b n hs bs       n blocks more of the batch b, which starts with the holders hs where it does not stand
 --   fewer_blocks b n bs         n blocks fewer of the batch b, which is removed with its last block
-use Rattle.std.specs.Prelude.{ℕ, ◌+◌, ◌-◌, cond, List, [], ◌∷◌, map, ◌==◌, nat_lt}
+use Rattle.std.specs.Prelude.{ℕ, ◌+◌, ◌-◌, if◌then◌else◌, List, [], ◌∷◌, map, sum_by, ◌==◌, nat_lt}
 use Rattle.books.specs.declared.machine.Machine.{Machine}
 
 pub record Held : Type 0 where
@@ -31,29 +31,29 @@ batch_numbers bs = map (λ b. b.number) bs
 
 abbrev pub blocks_of : ℕ → List Held → ℕ
 blocks_of b [] = 0
-blocks_of b (c ∷ cs) = cond (c.number == b) c.blocks (blocks_of b cs)
+blocks_of b (c ∷ cs) = if c.number == b then c.blocks else blocks_of b cs
 
 abbrev pub holders_of : ℕ → List Held → List ℕ
 holders_of b [] = []
-holders_of b (c ∷ cs) = cond (c.number == b) c.holders (holders_of b cs)
+holders_of b (c ∷ cs) = if c.number == b then c.holders else holders_of b cs
 
 abbrev pub all_blocks : List Held → ℕ
-all_blocks [] = 0
-all_blocks (c ∷ cs) = c.blocks + all_blocks cs
+all_blocks bs = sum_by (λ b. b.blocks) bs
 
 abbrev pub with_machine : Machine → List Machine → List Machine
 with_machine m [] = m ∷ []
-with_machine m (k ∷ ks) = cond (nat_lt m.number k.number) (m ∷ k ∷ ks) (k ∷ with_machine m ks)
+with_machine m (k ∷ ks) = if nat_lt m.number k.number then (m ∷ k ∷ ks) else (k ∷ with_machine m ks)
 
 abbrev pub more_blocks : ℕ → ℕ → List ℕ → List Held → List Held
 more_blocks b n hs [] = record { number = b; blocks = n; holders = hs } ∷ []
 more_blocks b n hs (c ∷ cs) =
-    cond (c.number == b) (record { number = b; blocks = c.blocks + n; holders = c.holders } ∷ cs)
-    (cond (nat_lt b c.number) (record { number = b; blocks = n; holders = hs } ∷ c ∷ cs) (c ∷ more_blocks b n hs cs))
+    if c.number == b then (record { number = b; blocks = c.blocks + n; holders = c.holders } ∷ cs)
+    else if nat_lt b c.number then (record { number = b; blocks = n; holders = hs } ∷ c ∷ cs)
+    else (c ∷ more_blocks b n hs cs)
 
 abbrev pub fewer_blocks : ℕ → ℕ → List Held → List Held
 fewer_blocks b n [] = []
 fewer_blocks b n (c ∷ cs) =
-    cond (c.number == b)
-    (cond (c.blocks == n) cs (record { number = b; blocks = c.blocks - n; holders = c.holders } ∷ cs))
-    (c ∷ fewer_blocks b n cs)
+    if c.number == b
+    then (if c.blocks == n then cs else (record { number = b; blocks = c.blocks - n; holders = c.holders } ∷ cs))
+    else (c ∷ fewer_blocks b n cs)

@@ -1,9 +1,12 @@
 // Why a call is refused. The first check that applies, in the order of the call's checks, is told.
 ghost use Rattle.std.specs.Prelude.{◌≡◌, if◌then◌else◌, Some, None};
+ghost use Rattle.std.specs.Fmt.{decimal, styled_decimal};
 ghost use Rattle.books.specs.Numbers.{outside};
 ghost use Rattle.books.specs.Refusals.{case_of, refusal_in};
 
-#[derive(Clone, Copy, Debug)]
+use std::fmt;
+
+#[derive(Clone, Copy, PartialEq, Eq, Debug)]
 pub enum Refusal {
     // refused for what was handed in: 11 to 16 are outside their ranges
     MachineNumber = 11,
@@ -44,6 +47,17 @@ impl Refusal {
         ensures is_the_number_of_its_case { result ≡ (case_of self).number }
     {
         self as u8
+    }
+}
+
+// A refusal is printed as its number.
+impl fmt::Display for Refusal {
+    ghost output = { λ r. Some (decimal (case_of r).number) };
+
+    ghost styled_output = { λ r spec. Some (styled_decimal spec (case_of r).number) };
+
+    fn fmt<W: fmt::Write>(&self, f: &mut fmt::Formatter<W>) -> fmt::Result {
+        self.number().fmt(f)
     }
 }
 

@@ -5,7 +5,8 @@ use planner::{Muster, OpenBook, Refusal};
 
 type Plain = Backlog<Even>;
 
-// the number, ticks, lot and backlog of a machine that is handed in to a muster of the machines 1 to 32, and what is told
+// the number, ticks, lot and backlog of a machine that is handed in to a muster of the machines 1 to 32, and the number of
+// the refusal
 const ENLISTS: [(u16, u16, u16, u32, u8); 10] = [
     (0, 0, 1, 0, 11),
     (10_000, 1, 1, 0, 11),
@@ -19,7 +20,7 @@ const ENLISTS: [(u16, u16, u16, u32, u8); 10] = [
     (9_999, 9_999, 999, 999_999, 42),
 ];
 
-// the number, the blocks and the holders of a batch that is held in the full book, and what is told
+// the number, the blocks and the holders of a batch that is held in the full book, and the number of the refusal
 const HOLDS: [(u32, u32, &[u16], u8); 16] = [
     (0, 0, &[1], 15),
     (100_000, 1, &[1], 15),
@@ -40,13 +41,13 @@ const HOLDS: [(u32, u32, &[u16], u8); 16] = [
 ];
 
 // the number and the blocks of a batch that are dropped from the full book, and what is told
-const DROPS: [(u32, u32, u8); 6] = [
-    (0, 0, 15),
-    (200, 0, 16),
-    (200, 100_000, 16),
-    (200, 1, 48),
-    (11, 2, 49),
-    (1, 99_999, 0),
+const DROPS: [(u32, u32, Result<(), u8>); 6] = [
+    (0, 0, Err(15)),
+    (200, 0, Err(16)),
+    (200, 100_000, Err(16)),
+    (200, 1, Err(48)),
+    (11, 2, Err(49)),
+    (1, 99_999, Ok(())),
 ];
 
 // number, ticks and backlog of the machines; number, blocks and holders of the batches; the load of each machine, and the
@@ -85,12 +86,9 @@ const ALIKE: &[(u16, u16, u32)] = &[(1, 1, 0), (2, 1, 0), (3, 1, 0)];
 
 const UNLIKE: &[(u16, u16, u32)] = &[(1, 2, 0), (2, 3, 4)];
 
-// what a call answered, as a number; 0 where it was accepted
-fn told(answer: Result<(), Refusal>) -> u8 {
-    match answer {
-        Ok(()) => 0,
-        Err(refusal) => refusal.number(),
-    }
+// what a call answered, with the number of the refusal
+fn told<T: Drop>(answer: Result<T, Refusal>) -> Result<T, u8> {
+    answer.map_err(Refusal::number)
 }
 
 // the machines 1 to the last, all alike
@@ -119,14 +117,17 @@ fn full_book() -> OpenBook<Plain> {
 fn the_first_check_that_applies_is_told(rt: HostRuntime) {
     let mut muster = muster(32);
     for (number, ticks, lot, backlog, refusal) in ENLISTS {
-        assert_eq!(rt; told(muster.enlist(number, ticks, lot, backlog)), refusal);
+        assert_eq!(rt;
+            told(muster.enlist(number, ticks, lot, backlog)),
+            Err(refusal)
+        );
     }
     let mut book = full_book();
     for (batch, blocks, holders, refusal) in HOLDS {
-        assert_eq!(rt; told(book.hold(batch, blocks, holders)), refusal);
+        assert_eq!(rt; told(book.hold(batch, blocks, holders)), Err(refusal));
     }
-    for (batch, blocks, refusal) in DROPS {
-        assert_eq!(rt; told(book.drop(batch, blocks)), refusal);
+    for (batch, blocks, answer) in DROPS {
+        assert_eq!(rt; told(book.drop(batch, blocks)), answer);
     }
 }
 
@@ -134,25 +135,25 @@ fn the_first_check_that_applies_is_told(rt: HostRuntime) {
 fn a_book_holds_a_million_blocks(rt: HostRuntime) {
     let mut book = muster(1).open();
     for batch in 1..=10 {
-        assert_eq!(rt; told(book.hold(batch, 99_999, &[1])), 0);
+        assert_eq!(rt; told(book.hold(batch, 99_999, &[1])), Ok(()));
     }
-    assert_eq!(rt; told(book.hold(11, 10, &[1])), 0);
-    assert_eq!(rt; told(book.hold(11, 1, &[1])), 47);
+    assert_eq!(rt; told(book.hold(11, 10, &[1])), Ok(()));
+    assert_eq!(rt; told(book.hold(11, 1, &[1])), Err(47));
 }
 
 #[test]
 fn an_emptied_batch_gives_its_place_back(rt: HostRuntime) {
     let mut book = muster(1).open();
     for batch in 1..=128 {
-        assert_eq!(rt; told(book.hold(batch, 2, &[1])), 0);
+        assert_eq!(rt; told(book.hold(batch, 2, &[1])), Ok(()));
     }
-    assert_eq!(rt; told(book.hold(129, 2, &[1])), 44);
-    assert_eq!(rt; told(book.drop(64, 1)), 0);
-    assert_eq!(rt; told(book.hold(129, 2, &[1])), 44);
-    assert_eq!(rt; told(book.drop(64, 1)), 0);
-    assert_eq!(rt; told(book.hold(129, 2, &[1])), 0);
+    assert_eq!(rt; told(book.hold(129, 2, &[1])), Err(44));
+    assert_eq!(rt; told(book.drop(64, 1)), Ok(()));
+    assert_eq!(rt; told(book.hold(129, 2, &[1])), Err(44));
+    assert_eq!(rt; told(book.drop(64, 1)), Ok(()));
+    assert_eq!(rt; told(book.hold(129, 2, &[1])), Ok(()));
     assert_eq!(rt; book.batches().len(), 128);
-    assert_eq!(rt; told(book.hold(64, 2, &[1])), 44);
+    assert_eq!(rt; told(book.hold(64, 2, &[1])), Err(44));
 }
 
 #[test]
@@ -199,46 +200,31 @@ fn book_of(machines: &[(u16, u16, u32)], batches: &[(u32, u32, &[u16])]) -> Open
     book
 }
 
-// a number that was read, or the number of the refusal
-fn read(answer: Result<u32, Refusal>) -> u32 {
-    match answer {
-        Ok(value) => value,
-        Err(refusal) => refusal.number() as u32,
-    }
-}
-
-fn read_ending(answer: Result<u64, Refusal>) -> u64 {
-    match answer {
-        Ok(moment) => moment,
-        Err(refusal) => refusal.number() as u64,
-    }
-}
-
 #[test]
 fn settled_books_have_the_best_loads(rt: HostRuntime) {
     for (machines, batches, loads, ending) in SETTLED {
         let settled = book_of(machines, batches).settle();
         for (number, load) in loads {
-            assert_eq!(rt; read(settled.load(*number)), *load);
+            assert_eq!(rt; told(settled.load(*number)), Ok(*load));
         }
-        assert_eq!(rt; read_ending(settled.last_ending()), ending);
+        assert_eq!(rt; told(settled.last_ending()), Ok(ending));
     }
 }
 
 #[test]
 fn a_settled_book_tells_what_it_does_not_have(rt: HostRuntime) {
     let nothing = book_of(&[], &[]).settle();
-    assert_eq!(rt; read(nothing.load(1)), 43);
-    assert_eq!(rt; read(nothing.share(10, 1)), 48);
-    assert_eq!(rt; read_ending(nothing.last_ending()), 50);
+    assert_eq!(rt; told(nothing.load(1)), Err(43));
+    assert_eq!(rt; told(nothing.share(10, 1)), Err(48));
+    assert_eq!(rt; told(nothing.last_ending()), Err(50));
     let idle = book_of(ALIKE, &[]).settle();
-    assert_eq!(rt; read(idle.load(1)), 0);
-    assert_eq!(rt; read_ending(idle.last_ending()), 50);
+    assert_eq!(rt; told(idle.load(1)), Ok(0));
+    assert_eq!(rt; told(idle.last_ending()), Err(50));
     let busy = book_of(UNLIKE, &[(10, 3, &[1])]).settle();
-    assert_eq!(rt; read(busy.share(10, 1)), 3);
-    assert_eq!(rt; read(busy.share(10, 2)), 0);
-    assert_eq!(rt; read(busy.share(10, 3)), 43);
-    assert_eq!(rt; read(busy.share(11, 3)), 48);
+    assert_eq!(rt; told(busy.share(10, 1)), Ok(3));
+    assert_eq!(rt; told(busy.share(10, 2)), Ok(0));
+    assert_eq!(rt; told(busy.share(10, 3)), Err(43));
+    assert_eq!(rt; told(busy.share(11, 3)), Err(48));
 }
 
 #[test]
@@ -255,10 +241,10 @@ fn the_same_blocks_in_other_batches_have_the_same_loads(rt: HostRuntime) {
     let other = book_of(ALIKE, &split).settle();
     assert!(rt; first.same_loads(&other));
     let mut more = other.reopen();
-    assert_eq!(rt; told(more.hold(5, 1, &[1])), 0);
+    assert_eq!(rt; told(more.hold(5, 1, &[1])), Ok(()));
     let more = more.settle();
     assert!(rt; !first.same_loads(&more));
     let mut again = more.reopen();
-    assert_eq!(rt; told(again.drop(5, 1)), 0);
+    assert_eq!(rt; told(again.drop(5, 1)), Ok(()));
     assert!(rt; again.settle().same_loads(&first));
 }

@@ -1,11 +1,11 @@
 -- How often a test is passed that is passed just up to some count.
-use Rattle.std.specs.Prelude.{◌≡◌, ℕ, zero, suc, ◌<◌, ◌≤◌, min, Bool, cond, nat_le, refl}
+use Rattle.std.specs.Prelude.{◌≡◌, ℕ, zero, suc, ◌<◌, ◌≤◌, min, Bool, if◌then◌else◌, nat_le, refl}
 use Rattle.std.proofs.Common.{ap, sym, ◌∙◌, ⊎_elim, arith}
 use Rattle.std.proofs.lemmas.Bool.{cases_lt, le-leb, lt-leb}
 use Rattle.pace.specs.Moments.{count, capacity_of}
 
 counted : Bool → ℕ
-counted b = cond b 1 0
+counted b = if b then 1 else 0
 
 count_upto : (n c : ℕ) (p : ℕ → Bool) → ((k : ℕ) → 0 < k → k ≤ n → p k ≡ nat_le k c) → count n p ≡ min n c
 unfolding count counted

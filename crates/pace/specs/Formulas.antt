@@ -1,5 +1,5 @@
 -- What the formulas of the paces keep, and their capacities.
-use Rattle.std.specs.Prelude.{◌≡◌, ℕ, suc, ◌+◌, ◌-◌, ◌*◌, ◌/◌, ◌<◌, ◌≤◌, min, cond, ◌==◌}
+use Rattle.std.specs.Prelude.{◌≡◌, ℕ, suc, ◌+◌, ◌-◌, ◌*◌, ◌/◌, ◌<◌, ◌≤◌, min, if◌then◌else◌, ◌==◌}
 use Rattle.std.proofs.Common.{ap, ◌∙◌, mul-le-mul, mul-le-mul_right, le-div_iff_mul-le, div-lt_iff_lt-mul, div-mul-le_self, zero-mul, mul-zero, add-mul, arith}
 use Rattle.std.proofs.Math.Nat.{lt-div-mul-add, div-eq_of_lt}
 use Rattle.std.proofs.lemmas.Bool.{ne_eqb, cond-false}
@@ -61,24 +61,24 @@ module _ (lot : ℕ) (some : 0 < lot) where
 
 -- the backlog b over a table f
 delayed : (ℕ → ℕ) → ℕ → ℕ → ℕ
-delayed f b k = cond (k == 0) 0 (min 99999999999 (f k + b))
+delayed f b k = if k == 0 then 0 else min 99999999999 (f k + b)
 
 delayed_is : (f : ℕ → ℕ) (b k : ℕ) → 0 < k → delayed f b k ≡ min 99999999999 (f k + b)
 unfolding delayed
 delayed_is f b k some = cond-false (k == 0) 0 (min 99999999999 (f k + b)) (ne_eqb k 0 (omega arith))
 
 module _ (f : ℕ → ℕ) (b t : ℕ) where
-  pub capacity_at_the_latest : 99999999999 ≤ t → capacity_of (λ k. cond (k == 0) 0 (min 99999999999 (f k + b))) t ≡ 1000000
+  pub capacity_at_the_latest : 99999999999 ≤ t → capacity_of (λ k. if k == 0 then 0 else min 99999999999 (f k + b)) t ≡ 1000000
   unfolding delayed
   capacity_at_the_latest end =
       capacity_upto (delayed f b) t 1000000 (λ k some few in-time. few) (λ k some few le. omega (arith, delayed_is f b k some))
 
-  pub capacity_before_backlog : t < 99999999999 → t < b → capacity_of (λ k. cond (k == 0) 0 (min 99999999999 (f k + b))) t ≡ 0
+  pub capacity_before_backlog : t < 99999999999 → t < b → capacity_of (λ k. if k == 0 then 0 else min 99999999999 (f k + b)) t ≡ 0
   unfolding delayed
   capacity_before_backlog early lt =
       capacity_upto (delayed f b) t 0 (λ k some few in-time. absurd (omega (arith, delayed_is f b k some))) (λ k some few le. absurd (omega arith))
 
-  pub capacity_after_backlog : t < 99999999999 → b ≤ t → capacity_of (λ k. cond (k == 0) 0 (min 99999999999 (f k + b))) t ≡ capacity_of f (t - b)
+  pub capacity_after_backlog : t < 99999999999 → b ≤ t → capacity_of (λ k. if k == 0 then 0 else min 99999999999 (f k + b)) t ≡ capacity_of f (t - b)
   unfolding delayed
   capacity_after_backlog early le =
       capacity_same (delayed f b) f t (t - b)

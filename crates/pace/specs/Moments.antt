@@ -4,7 +4,7 @@
 --   capacity_of f t    how many k from 1 to 1,000,000 end no later than t, where f k is the moment of the k-th block
 --   even_moment, lots_moment    the formulas of the two paces without backlog
 --   backlog_moment f            the formula of backlog over a pace whose formula is f
-use Rattle.std.specs.Prelude.{ℕ, zero, suc, ◌+◌, ◌-◌, ◌*◌, ◌/◌, ◌^◌, ◌<◌, min, max, Bool, cond, ◌==◌, nat_le}
+use Rattle.std.specs.Prelude.{ℕ, zero, suc, ◌+◌, ◌-◌, ◌*◌, ◌/◌, ◌^◌, ◌<◌, min, max, Bool, if◌then◌else◌, ◌==◌, nat_le}
 use Rattle.pace.specs.declared.terms.Terms.{Terms}
 
 pub record Fit (t : Terms) : Type 0 where
@@ -14,7 +14,7 @@ pub record Fit (t : Terms) : Type 0 where
 
 unfoldable pub count : ℕ → (ℕ → Bool) → ℕ
 count zero p = 0
-count (suc n) p = count n p + cond (p (suc n)) 1 0
+count (suc n) p = count n p + (if p (suc n) then 1 else 0)
 
 unfoldable pub capacity_of : (ℕ → ℕ) → ℕ → ℕ
 capacity_of f t = count 1000000 (λ k. nat_le (f k) t)
@@ -33,4 +33,4 @@ lots_moment t k = rounded_up (min k 1000000) (max t.lot 1) * t.ticks
 
 -- from the first block on, the backlog comes on top, up to the latest moment
 abbrev pub backlog_moment : (Terms → ℕ → ℕ) → Terms → ℕ → ℕ
-backlog_moment f t k = cond (k == 0) 0 (min 99999999999 (f t k + t.backlog))
+backlog_moment f t k = if k == 0 then 0 else min 99999999999 (f t k + t.backlog)

@@ -1,5 +1,4 @@
 // Every block takes the machine's ticks.
-ghost use Rattle.std.specs.Prelude.{◌≡◌};
 ghost use Rattle.pace.specs.Moments.{even_moment};
 ghost use Prim.Native.Nat;
 ghost use Rattle.std.proofs.Common.{arith, rules};

@@ -1,5 +1,5 @@
 // Blocks are sent in whole lots: a block ends when its lot does.
-ghost use Rattle.std.specs.Prelude.{◌≡◌, ℕ, suc, ◌*◌};
+ghost use Rattle.std.specs.Prelude.{ℕ, suc, ◌*◌};
 ghost use Rattle.std.proofs.Common.{ap, ◌∙◌, zero-mul, mul-le-mul_right, arith, rules};
 ghost use Rattle.pace.specs.Moments.{lots_moment, rounded_up};
 ghost use Prim.Native.Nat;

@@ -1,6 +1,6 @@
 // The terms of a machine. Every value that fits the widths is allowed here.
 
-#[derive(Clone, Copy, Debug)]
+#[derive(Clone, Copy, Debug, Default)]
 pub struct Terms {
     // that one block takes
     pub ticks: u16,

@@ -1,7 +1,7 @@
 // A set of machine places, as one word.
 //
 // A book's machines stand at the places 0 to 31 in ascending number. Every contract here says through `has`
-// which places a set holds; that of `==` says too what it compares, and those of an iteration in which order they come.
+// which places a set holds; that of `==` says too what it compares.
 #![tactic(auto)]
 
 ghost use Rattle.std.specs.Prelude.{◌≡◌, ℕ, false, not, ◌&&◌, ◌||◌, ◌↔◌, IsTrue, MatchOption, ◌==◌, nat_lt};
@@ -9,18 +9,12 @@ ghost use Rattle.places.specs.Has.{has, same_places, size, Lowest};
 ghost use Rattle.std.specs.Cmp.Rules.{comparing};
 ghost use Rattle.std.proofs.Common.{rules};
 
-mod iter;
-
-pub use iter::Iter;
-
-#[derive(Clone, Copy, Debug)]
+#[derive(Clone, Copy, Debug, Default)]
 pub struct Places {
     word: u32,
 }
 
 impl Places {
-    ghost use Rattle.places.specs.Members.{members, left_in};
-
     // No place.
     pub fn empty() -> Places
         ensures holds_no_place { (k : ℕ) → has result k ≡ false }
@@ -88,13 +82,6 @@ impl Places {
             return None;
         }
         Some(self.word.trailing_zeros() as usize)
-    }
-
-    // Goes through the places, from the lowest on.
-    pub fn iter(self) -> Iter
-        ensures goes_through_the_places_in_ascending_order { left_in result ≡ members self }
-    {
-        Iter { left: self }
     }
 
     // Takes the lowest place out, if there is one.

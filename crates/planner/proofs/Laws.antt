@@ -1,7 +1,11 @@
 -- The laws of settled books: stable is best, the least last ending, equal loads.
-use Rattle.std.proofs.Common.{◌≡◌, ℕ, zero, suc, ◌+◌, ◌*◌, ◌<◌, ◌≤◌, Bool, true, false, ◌&&◌, ◌||◌, eqb, ltb, List, length, get_or, sym, refl, ap, ◌∙◌, subst, inl, inr, arith}
-use Rattle.std.proofs.lemmas.List.{same_lists, length-map, get_or_default}
-use Rattle.std.proofs.lemmas.Bool.{cases_Bool, cases_lt, cases_eq, lt-ltb, le-ltb}
+use Rattle.std.proofs.Common.{◌==◌, Decides, ◌≡◌, ℕ, zero, suc, ◌+◌, ◌*◌, ◌<◌, ◌≤◌, Bool, true, false, ◌&&◌, List, length, get_or, sym, refl, ap, ◌∙◌, subst, inl, inr, arith}
+use Rattle.std.specs.List.{All, enumerate_from, list_all, zip}
+use Rattle.std.proofs.lemmas.List.FromFn.{length-enumerate_from, get_or-enumerate_from}
+use Rattle.std.proofs.lemmas.Slice.Zip.{length-zip, get_or-zip}
+use Rattle.std.proofs.lemmas.List.{same_lists, length-map, get_or-map}
+use Rattle.std.proofs.lemmas.Bool.Decides.{Decides-and, Decides-by_and, Decides-eqb}
+use Rattle.std.proofs.lemmas.Bool.{false_from_ne_true, or_from, or_left, and_right, cases_lt, cases_eq, lt-ltb, le-ltb}
 use Rattle.pace.specs.declared.terms.Terms.{Terms}
 use Rattle.pace.specs.Moments.{Fit, count}
 use Rattle.theory.specs.Sums.{only}
@@ -17,12 +21,12 @@ use Rattle.books.specs.Standing.{machine_numbers}
 use Rattle.books.specs.Views.{machines_in, standing_of}
 use Rattle.shares.specs.declared.mark.Mark.{Mark}
 use Rattle.shares.specs.declared.plan.Plan.{Plan}
-use Rattle.shares.specs.Marks.{later, machine_at, values}
+use Rattle.shares.specs.Marks.{later, no_machine, machine_at, values}
 use Rattle.shares.specs.Plans.{machines_at, share, load_at}
-use Rattle.shares.proofs.Facts.{number_small, number_at, terms_fit}
+use Rattle.shares.proofs.Facts.{number_small, terms_fit}
 use Rattle.shares.proofs.Planned.{loads_are}
 use Rattle.shares.proofs.Ordering.{later_value, not_later_value, marks_ordered}
-use Rattle.planner.specs.ShareOuts.{ShareOut, SameTable, to_share, Shared, load_of, mark_at, blocks_after, Best, NoChainHelps, LastEnding, SameLoads, blocks_of_set}
+use Rattle.planner.specs.ShareOuts.{AlikeSettled, ShareOut, to_share, Shared, load_of, mark_at, blocks_after, Best, NoChainHelps, LastEnding, SameLoads}
 use Rattle.planner.proofs.Standings.{load_is}
 use Rattle.planner.proofs.AfterMarks.{next_value, blocks_counted}
 
@@ -39,10 +43,8 @@ module _ (k : Book) (table : Terms → ℕ → ℕ) (up : (t : Terms) (j : ℕ) 
 module _ (k : Book) (table : Terms → ℕ → ℕ) (x : ShareOut) where
   not_later_from : (i q a b : ℕ) → i < length (machines_in k) → q < length (machines_in k) → values table (machines_in k) i a ≤ values table (machines_in k) q b
       → later (mark_at table (standing_of k) i a) (mark_at table (standing_of k) q b) ≡ false
-  not_later_from i q a b li lq le = elim (cases_Bool (later (mark_at table (standing_of k) i a) (mark_at table (standing_of k) q b))) [
-    | inl e ↦ absurd (omega (arith, le, later_value (mark_at table (standing_of k) i a) (mark_at table (standing_of k) q b) (number_small k i li) (number_small k q lq) e))
-    | inr e ↦ e
-  ]
+  not_later_from i q a b li lq le =
+      false_from_ne_true _ (λ e. absurd (omega (arith, le, later_value (mark_at table (standing_of k) i a) (mark_at table (standing_of k) q b) (number_small k i li) (number_small k q lq) e)))
 
   -- by marks and by their values
   pub stable_chains : Stable (length (machines_in k)) (values table (machines_in k)) (to_share (standing_of k)) x → NoChainHelps table (standing_of k) x
@@ -74,21 +76,20 @@ module _ (k : Book) (table : Terms → ℕ → ℕ) (x y : ShareOut) (bx : Best 
 
   none_after : blocks_after table (standing_of k) y μ ≡ 0
   unfolding μ
-  none_after = total_eq (length (machines_in k)) _ (λ _. 0) (λ i l. count_none (load_of (standing_of k) y i) _ (λ j a b.
-      rw (le-ltb u (mark_at table (standing_of k) i j).moment (end-y.none_later i j l a b), le-ltb 9999 (machine_at (machines_in k) i).number (omega (arith, number_small k i l))) (last (eqb u (mark_at table (standing_of k) i j).moment)))) ∙ total_zero (length (machines_in k))
-    where
-      last : (s : Bool) → (false || (s && false)) ≡ false
-      last s = grind arith
+  none_after =
+      total_eq (length (machines_in k)) _ (λ _. 0) (λ i l. count_none (load_of (standing_of k) y i) _ (λ j a b.
+      or_from _ _ (le-ltb u (mark_at table (standing_of k) i j).moment (end-y.none_later i j l a b)) (and_right _ _ (le-ltb 9999 (machine_at (machines_in k) i).number (omega (arith, number_small k i l))))))
+      ∙ total_zero (length (machines_in k))
 
   some_after : u < t → 0 < blocks_after table (standing_of k) x μ
   unfolding μ
   some_after h =
       let s = end-x.some_block in
-      let past : ltb u (mark_at table (standing_of k) s.0 s.1).moment ≡ true = lt-ltb u _ (omega (arith, h, s.5)) in
+      let after : ℕ → ℕ → Bool = λ i j. later (mark_at table (standing_of k) i j) (record { moment = u; number = 9999 }) in
       omega (
         arith,
-        count_some (load_of (standing_of k) x s.0) (λ j. later (mark_at table (standing_of k) s.0 j) (record { moment = u; number = 9999 })) s.1 s.3 s.4 (rw past refl),
-        term_le (length (machines_in k)) (λ i. count (load_of (standing_of k) x i) (λ j. later (mark_at table (standing_of k) i j) (record { moment = u; number = 9999 }))) s.0 s.2,
+        count_some (load_of (standing_of k) x s.0) (after s.0) s.1 s.3 s.4 (or_left _ _ (lt-ltb u _ (omega (arith, h, s.5)))),
+        term_le (length (machines_in k)) (λ i. count (load_of (standing_of k) x i) (after i)) s.0 s.2,
       )
 
   pub least_ending : t ≤ u
@@ -100,22 +101,21 @@ module _ (k k' : Book) (table table' : Terms → ℕ → ℕ) (up : (t : Terms) 
   same_again : Alike (length (machines_in k)) (to_share (standing_of k')) (to_share (standing_of k'))
   same_again = record { same_batches = refl; same_holds = λ _ _ _ _. refl; same_blocks = λ _ _. refl }
 
-  pub equal_books : NoChainHelps table (standing_of k) x → NoChainHelps table' (standing_of k') y → SameTable table table'
-      → (standing_of k).machines ≡ (standing_of k').machines → ((S : ℕ → Bool) → blocks_of_set (standing_of k) S ≡ blocks_of_set (standing_of k') S)
-      → SameLoads (standing_of k) x (standing_of k') y
-  equal_books cx cy same-table same blocks =
+  pub equal_books : AlikeSettled table (standing_of k) x table' (standing_of k') y → SameLoads (standing_of k) x (standing_of k') y
+  equal_books alike =
+      let same = alike.same_machines in
       let ms = machines_in k in
       let m = length ms in
       let sy' : Complete m (to_share (standing_of k')) y = subst (λ (l : List Machine). Complete (length l) (to_share (standing_of k')) y) (sym same) sy in
       let st : Stable m (values table' ms) (to_share (standing_of k')) y =
-      subst (λ (l : List Machine). Stable (length l) (values table' l) (to_share (standing_of k')) y) (sym same) (chains_stable k' table' y cy) in
+      subst (λ (l : List Machine). Stable (length l) (values table' l) (to_share (standing_of k')) y) (sym same) (chains_stable k' table' y alike.no_chain_helps_in_the_other) in
       let st' : Stable m (values table ms) (to_share (standing_of k')) y =
-      stable_alike same_again y {p = values table' ms} (λ i j l. ap (λ (v : ℕ). v * 10000 + (machine_at ms i).number) (sym (same-table (machine_at ms i).terms j (terms_fit k i l)))) st in
+      stable_alike same_again y {p = values table' ms} (λ i j l. ap (λ (v : ℕ). v * 10000 + (machine_at ms i).number) (sym (alike.same_paces (machine_at ms i).terms j (terms_fit k i l)))) st in
       let held : (S : ℕ → Bool) → blocks_held m (to_share (standing_of k)) S ≡ blocks_held m (to_share (standing_of k')) S =
-      subst (λ (l : List Machine). (S : ℕ → Bool) → blocks_held m (to_share (standing_of k)) S ≡ blocks_held (length l) (to_share (standing_of k')) S) (sym same) blocks in
+      subst (λ (l : List Machine). (S : ℕ → Bool) → blocks_held m (to_share (standing_of k)) S ≡ blocks_held (length l) (to_share (standing_of k')) S) (sym same) alike.same_blocks_of_each_set in
       record {
         numbers = ap machine_numbers same;
-        loads = equal_loads m (values table ms) (to_share (standing_of k)) (to_share (standing_of k')) x y (marks_ordered k table up) sx (chains_stable k table x cx) sy' st'
+        loads = equal_loads m (values table ms) (to_share (standing_of k)) (to_share (standing_of k')) x y (marks_ordered k table up) sx (chains_stable k table x alike.no_chain_helps_in_one) sy' st'
             (same_work m (to_share (standing_of k)) (to_share (standing_of k')) held);
       }
 
@@ -152,30 +152,55 @@ module _ (k : Plan) (table : Terms → ℕ → ℕ) (at_zero : (t : Terms) → F
     );
   }
 
--- two books agree just where each number and each load does
+-- two books of equally many machines agree just where the machines at each place do, in number and in load
 module _ (k k' : Plan) where
-  counts : length (machine_numbers (machines_in k.book)) ≡ machines_at k
-  counts = length-map (machines_in k.book) (λ (m : Machine). m.number)
+  -- a place, and the machines that stand there in both
+  abbrev Pair : Type 0
+  Pair = ℕ × (Machine × Machine)
 
-  counts' : length (machine_numbers (machines_in k'.book)) ≡ machines_at k'
-  counts' = length-map (machines_in k'.book) (λ (m : Machine). m.number)
+  abbrev pub pair_agrees : ℕ × (Machine × Machine) → Bool
+  pair_agrees p = (p.1.0.number == p.1.1.number) && (load_at k p.0 == load_at k' p.0)
 
-  pub agree : machines_at k ≡ machines_at k' → ((i : ℕ) → i < machines_at k → (machine_at (machines_in k.book) i).number ≡ (machine_at (machines_in k'.book) i).number)
-      → ((i : ℕ) → i < machines_at k → load_at k i ≡ load_at k' i) → SameLoads (standing_of k.book) (share k) (standing_of k'.book) (share k')
-  agree long numbers loads = record {
-    numbers = same_lists (machine_numbers (machines_in k.book)) (machine_numbers (machines_in k'.book)) (omega (arith, counts, counts', long)) (λ i d l.
-        let li : i < machines_at k = omega (arith, l, counts) in
-        get_or_default (machine_numbers (machines_in k.book)) i d 0 l ∙ number_at k.book i li ∙ numbers i li
-        ∙ sym (number_at k'.book i (omega (arith, li, long))) ∙ get_or_default (machine_numbers (machines_in k'.book)) i 0 d (omega (arith, li, long, counts')));
-    loads = λ i l. sym (load_is k i) ∙ loads i l ∙ load_is k' i;
-  }
+  abbrev PairAgrees : Pair → Type 0
+  PairAgrees p = (p.1.0.number ≡ p.1.1.number) × (load_at k p.0 ≡ load_at k' p.0)
 
-  module _ (same : SameLoads (standing_of k.book) (share k) (standing_of k'.book) (share k')) where
-    pub agree_count : machines_at k ≡ machines_at k'
-    agree_count = sym counts ∙ ap length same.numbers ∙ counts'
+  abbrev pub both : List (Machine × Machine)
+  both = zip (machines_in k.book) (machines_in k'.book)
 
-    pub agree_number : (i : ℕ) → i < machines_at k → (machine_at (machines_in k.book) i).number ≡ (machine_at (machines_in k'.book) i).number
-    agree_number i l = sym (number_at k.book i l) ∙ ap (λ (ns : List ℕ). get_or ns i 0) same.numbers ∙ number_at k'.book i (omega (arith, l, agree_count))
+  told : Decides (list_all pair_agrees (enumerate_from 0 both)) (All PairAgrees (enumerate_from 0 both))
+  told =
+      Decides-by_and pair_agrees PairAgrees (list_all pair_agrees) (λ (p : Pair). Decides-and _ _ (Decides-eqb p.1.0.number p.1.1.number) (Decides-eqb (load_at k p.0) (load_at k' p.0))) refl (λ _ _. refl)
+      (enumerate_from 0 both)
 
-    pub agree_load : (i : ℕ) → i < machines_at k → load_at k i ≡ load_at k' i
-    agree_load i l = load_is k i ∙ same.loads i l ∙ sym (load_is k' i)
+  module _ (long : machines_at k ≡ machines_at k') where
+    as_many : length both ≡ machines_at k
+    as_many = omega (arith, length-zip (machines_in k.book) (machines_in k'.book), long)
+
+    pair_at : (i : ℕ) (d : Pair) → i < machines_at k → get_or (enumerate_from 0 both) i d ≡ (i, (get_or (machines_in k.book) i d.1.0, get_or (machines_in k'.book) i d.1.1))
+    pair_at i d l =
+        let from_0 : 0 + i ≡ i = omega arith in
+        get_or-enumerate_from 0 both i d (omega (arith, as_many, l))
+        ∙ ap (λ (n : ℕ). (n, get_or both i d.1)) from_0
+        ∙ ap (λ (p : Machine × Machine). (i, p)) (get_or-zip (machines_in k.book) (machines_in k'.book) i d.1 l (omega (arith, l, long)))
+
+    number_is : (k : Plan) (i e : ℕ) (d : Machine) → i < machines_at k → get_or (machine_numbers (machines_in k.book)) i e ≡ (get_or (machines_in k.book) i d).number
+    number_is k i e d l = get_or-map (λ (m : Machine). m.number) (machines_in k.book) i d e l
+
+    pub agree : Decides (list_all pair_agrees (enumerate_from 0 both)) (SameLoads (standing_of k.book) (share k) (standing_of k'.book) (share k'))
+    agree = (
+      (λ t.
+          let at : (i : ℕ) → i < machines_at k → PairAgrees (i, (machine_at (machines_in k.book) i, machine_at (machines_in k'.book) i)) = λ i l.
+          subst PairAgrees (pair_at i (0, (no_machine, no_machine)) l) (told.0 t i (0, (no_machine, no_machine)) (omega (arith, l, length-enumerate_from 0 both, as_many))) in
+          record {
+            numbers = same_lists (machine_numbers (machines_in k.book)) (machine_numbers (machines_in k'.book)) (omega (arith, length-map (machines_in k.book) (λ (m : Machine). m.number), length-map (machines_in k'.book) (λ (m : Machine). m.number), long)) (λ i d l.
+                let li : i < machines_at k = omega (arith, l, length-map (machines_in k.book) (λ (m : Machine). m.number)) in
+                number_is k i d no_machine li ∙ (at i li).0 ∙ sym (number_is k' i d no_machine (omega (arith, li, long))));
+            loads = λ i l. sym (load_is k i) ∙ (at i l).1 ∙ load_is k' i;
+          }),
+      (λ same. told.1 (λ i d l.
+          let li : i < machines_at k = omega (arith, l, length-enumerate_from 0 both, as_many) in
+          subst PairAgrees (sym (pair_at i d li)) (
+            sym (number_is k i 0 d.1.0 li) ∙ ap (λ (ns : List ℕ). get_or ns i 0) same.numbers ∙ number_is k' i 0 d.1.1 (omega (arith, li, long)),
+            load_is k i ∙ same.loads i li ∙ sym (load_is k' i),
+          ))),
+    )

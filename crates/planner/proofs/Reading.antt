@@ -24,15 +24,9 @@ once ns up n i j li is f = elim (cases_order i j) [
 ]
 
 module _ (k : Book) where
-  pub machine_stands : (n j : ℕ) → Found n (machine_numbers (machines_in k)) j → j < length (machines_in k)
-  machine_stands n j f = omega (arith, f.within, length-map (machines_in k) (λ (m : Machine). m.number))
-
   pub machine_once : (n i j : ℕ) → i < length (machines_in k) → (machine_at (machines_in k) i).number ≡ n → Found n (machine_numbers (machines_in k)) j → i ≡ j
   machine_once n i j l is f =
       once (machine_numbers (machines_in k)) k.roster.ascends n i j (omega (arith, l, length-map (machines_in k) (λ (m : Machine). m.number))) (number_at k i l ∙ is) f
-
-  pub batch_stands : (n j : ℕ) → Found n (numbers_of (batches_in k)) j → j < length (batches_in k)
-  batch_stands n j f = omega (arith, f.within, length-map (batches_in k) (λ (b : Batch). b.number))
 
   pub batch_once : (n i j : ℕ) → i < length (standing_of k).batches → (held_at (standing_of k) i).number ≡ n → Found n (numbers_of (batches_in k)) j → i ≡ j
   batch_once n i j l is f =

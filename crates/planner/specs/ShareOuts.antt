@@ -14,8 +14,11 @@
 --                            batch with a block on a machine of the set, all holders are in it), and of which no machine's
 --                            next block would stand before the last block of the first
 --   LastEnding .. x t        t is the latest moment of any block
+--   NoneEndsBefore .. t      no share-out of what stands has its last ending before t
 --   blocks_of_set s S        the blocks of all batches whose holders are just the machines of the set S
 --   SameLoads s x t y        the machine numbers and the load of every machine agree
+--   AlikeSettled .. y        two settled books have the same machines, the same paces and as many blocks for each set of
+--                            holders, and no chain of moves helps in either
 use Rattle.std.specs.Prelude.{◌≡◌, ℕ, suc, ◌<◌, ◌≤◌, Bool, true, false, [], length, slice_index_or}
 use Rattle.pace.specs.declared.terms.Terms.{Terms}
 use Rattle.pace.specs.Moments.{Fit, count}
@@ -73,9 +76,19 @@ pub record LastEnding (table : Table) (s : Standing) (x : ShareOut) (t : ℕ) : 
   pub some_block : (i : ℕ) × (k : ℕ) × (i < machine_count s) × (0 < k) × (k ≤ load_of s x i) × ((mark_at table s i k).moment ≡ t)
   pub none_later : (i k : ℕ) → i < machine_count s → 0 < k → k ≤ load_of s x i → (mark_at table s i k).moment ≤ t
 
+abbrev pub NoneEndsBefore : Table → Standing → ℕ → Type 0
+NoneEndsBefore table s t = (y : ShareOut) → Shared s y → (u : ℕ) → LastEnding table s y u → t ≤ u
+
 abbrev pub blocks_of_set : Standing → (ℕ → Bool) → ℕ
 blocks_of_set s S = blocks_held (machine_count s) (to_share s) S
 
 pub record SameLoads (s : Standing) (x : ShareOut) (t : Standing) (y : ShareOut) : Type 0 where
   pub numbers : machine_numbers s.machines ≡ machine_numbers t.machines
   pub loads : (i : ℕ) → i < machine_count s → load_of s x i ≡ load_of t y i
+
+pub record AlikeSettled (f : Table) (s : Standing) (x : ShareOut) (g : Table) (t : Standing) (y : ShareOut) : Type 0 where
+  pub no_chain_helps_in_one : NoChainHelps f s x
+  pub no_chain_helps_in_the_other : NoChainHelps g t y
+  pub same_paces : SameTable f g
+  pub same_machines : s.machines ≡ t.machines
+  pub same_blocks_of_each_set : (S : ℕ → Bool) → blocks_of_set s S ≡ blocks_of_set t S

@@ -1,4 +1,4 @@
--- What stands in the states of a book, whatever its pace, and the share-out that a settled book lets read.
+-- What the states of a book have: what stands, whatever the pace; the pace; and the share-out that a settled book lets read.
 use Rattle.std.specs.Prelude.{ℕ}
 use Rattle.books.specs.Standing.{Standing}
 use Rattle.books.specs.Views.{mustered, standing_of}
@@ -15,6 +15,17 @@ in_book b = standing_of b.book
 
 abbrev pub in_settled : {P : Type 0} → SettledBook P → Standing
 in_settled b = standing_of b.plan.book
+
+-- A call that keeps the pace says so in a clause of its own: told in one equation with what stands, neither would go by
+-- its name.
+abbrev pub muster_pace : {P : Type 0} → Muster P → P
+muster_pace m = m.pace
+
+abbrev pub book_pace : {P : Type 0} → OpenBook P → P
+book_pace b = b.pace
+
+abbrev pub settled_pace : {P : Type 0} → SettledBook P → P
+settled_pace b = b.pace
 
 abbrev pub shares_in : {P : Type 0} → SettledBook P → ℕ → ℕ → ℕ
 shares_in b = share b.plan

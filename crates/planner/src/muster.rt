@@ -1,11 +1,10 @@
 // A muster: machines are enlisted, and then the book is opened.
-ghost use Rattle.std.specs.Prelude.{◌≡◌, ◌≤◌, true, false, length, is_ok};
+ghost use Rattle.std.specs.Prelude.{◌≡◌, OnOk, OnErr};
 ghost use Rattle.books.specs.Calls.{Enlist, Open, machine_with, after};
-ghost use Rattle.books.specs.Numbers.{all, ascending};
-ghost use Rattle.books.specs.Ranges.{machine_in_range};
 ghost use Rattle.books.specs.Refusals.{first_refusal, refusal_in};
-ghost use Rattle.books.specs.Standing.{nothing, machine_numbers};
-ghost use Rattle.planner.specs.States.{in_muster, in_book};
+ghost use Rattle.books.specs.Standing.{nothing};
+ghost use Rattle.planner.specs.Lent.{IsMachineList};
+ghost use Rattle.planner.specs.States.{in_muster, in_book, muster_pace, book_pace};
 
 use crate::open_book::OpenBook;
 use books::{Book, Machine, Refusal, Roster};
@@ -21,7 +20,7 @@ impl<P: Meter> Muster<P> {
     // A new muster, in which no machine is enlisted.
     pub fn begin(pace: P) -> Muster<P>
         ensures begins_with_nothing { in_muster result ≡ nothing }
-        ensures keeps_the_pace { result.pace ≡ pace }
+        ensures keeps_the_pace { muster_pace result ≡ pace }
     {
         Muster {
             pace,
@@ -34,19 +33,19 @@ impl<P> Muster<P> {
     // The machines, in ascending number.
     pub fn machines(&self) -> &[Machine]
         ensures lends_the_machines { result.now ≡ (in_muster self.now).machines }
-        ensures lends_them_in_ascending_number { ascending (machine_numbers result.now) ≡ true }
-        ensures lends_each_in_its_ranges { all machine_in_range result.now ≡ true }
-        ensures lends_at_most_32 { length result.now ≤ 32 }
+        ensures lends_them_in_order_and_range { IsMachineList result.now }
     {
         self.roster.machines()
     }
 
     // Adds a machine; at most 32 are enlisted.
     pub fn enlist(&mut self, number: u16, ticks: u16, lot: u16, backlog: u32) -> Result<(), Refusal>
-        ensures refuses_by_the_first_check_that_applies { refusal_in result ≡ first_refusal (Enlist (machine_with number ticks lot backlog)) (in_muster self.old) }
-        ensures changes_nothing_where_refused { is_ok result ≡ false → self.new ≡ self.old }
-        ensures adds_the_machine_where_accepted { is_ok result ≡ true → in_muster self.new ≡ after (Enlist (machine_with number ticks lot backlog)) (in_muster self.old) }
-        ensures keeps_the_pace { self.new.pace ≡ self.old.pace }
+        ensures refuses_by_the_first_check_that_applies { refusal_in result
+            ≡ first_refusal (Enlist (machine_with number ticks lot backlog)) (in_muster self.old) }
+        ensures changes_nothing_where_refused { OnErr result (self.new ≡ self.old) }
+        ensures adds_the_machine_where_accepted { OnOk result (
+            in_muster self.new ≡ after (Enlist (machine_with number ticks lot backlog)) (in_muster self.old)) }
+        ensures keeps_the_pace { muster_pace self.new ≡ muster_pace self.old }
     {
         let terms = Terms {
             ticks,
@@ -59,7 +58,7 @@ impl<P> Muster<P> {
     // The open book of these machines, without a batch.
     pub fn open(self) -> OpenBook<P>
         ensures keeps_what_stands { in_book result ≡ after Open (in_muster self) }
-        ensures keeps_the_pace { result.pace ≡ self.pace }
+        ensures keeps_the_pace { book_pace result ≡ muster_pace self }
     {
         let Muster { pace, roster } = self;
         OpenBook {

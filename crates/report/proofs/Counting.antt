@@ -1,43 +1,31 @@
--- A walk over batches that adds up the blocks of one set of holders, before the place i.
-use Rattle.std.proofs.Common.{◌≡◌, ℕ, ◌+◌, ◌<◌, ◌≤◌, Bool, List, ◌∷◌, length, get_or, drop, sym, subst, add-zero, add_assoc, arith}
-use Rattle.std.proofs.lemmas.List.{drop_more, drop_all}
+-- The batches of just one set of holders, by a test, and the sum of their blocks.
+use Rattle.std.proofs.Common.{◌≤◌, ◌↔◌, Bool, IsTrue, List, [], ◌∷◌, filter, inl, inr, arith}
+use Rattle.std.proofs.lemmas.Bool.{cases_Bool, both_ways}
+use Rattle.std.proofs.lemmas.List.Sums.{sum_by-cons}
+use Rattle.places.specs.declared.Places.{Places}
+use Rattle.places.specs.Has.{has, same_places}
+use Rattle.places.proofs.Digits.{same_places_decides}
 use Rattle.books.specs.declared.batch.Batch.{Batch}
 use Rattle.books.specs.Ranges.{blocks_in}
 use Rattle.report.specs.Sets.{Just, Counted, none, counts, skips}
 
-pub record Counting (set : ℕ → Bool) (bs : List Batch) (i blocks : ℕ) : Type 0 where
-  pub rest : (n : ℕ) → Counted set (drop i bs) n → Counted set bs (blocks + n)
-  pub few : blocks + blocks_in (drop i bs) ≤ 1000000
+abbrev pub has_just : Places → Batch → Bool
+has_just h b = same_places b.holders h
 
-module _ (set : ℕ → Bool) (bs : List Batch) where
-  pub counting_start : blocks_in bs ≤ 1000000 → Counting set bs 0 0
-  counting_start few = record { rest = λ n c. subst (Counted set bs) (omega arith) c; few = omega arith }
+pub has_just_is : (h : Places) (b : Batch) → IsTrue (has_just h b) ↔ Just (has h) b
+has_just_is h b = same_places_decides b.holders h
 
-  pub counting_end : (i blocks : ℕ) → length bs ≤ i → Counting set bs i blocks → Counted set bs blocks
-  counting_end i blocks end c = subst (Counted set bs) (add-zero blocks) (c.rest 0 (subst (λ cs. Counted set cs 0) (sym (drop_all i bs end)) none))
+module _ (h : Places) where
+  pub counted : (bs : List Batch) → Counted (has h) bs (blocks_in (filter (has_just h) bs))
+  counted [] = none
+  counted (b ∷ bs) = elim (cases_Bool (has_just h b)) [
+    | inl e ↦ rw (e, sum_by-cons (λ (c : Batch). c.blocks) b (filter (has_just h) bs)) (counts ((has_just_is h b).0 e) (counted bs))
+    | inr e ↦ rw e (skips (λ just. both_ways _ e ((has_just_is h b).1 just)) (counted bs))
+  ]
 
-  module _ (i blocks : ℕ) (d : Batch) (lt : i < length bs) (c : Counting set bs i blocks) where
-    split : drop i bs ≡ get_or bs i d ∷ drop (i + 1) bs
-    split = drop_more bs i d lt
-
-    few_here : blocks + ((get_or bs i d).blocks + blocks_in (drop (i + 1) bs)) ≤ 1000000
-    few_here = subst (λ cs. blocks + blocks_in cs ≤ 1000000) split c.few
-
-    pub counting_fits : blocks + (get_or bs i d).blocks ≤ 1000000
-    counting_fits = omega (arith, few_here)
-
-    pub counting_more : Just set (get_or bs i d) → Counting set bs (i + 1) (blocks + (get_or bs i d).blocks)
-    counting_more just =
-        record {
-          rest = λ n rest.
-              subst (Counted set bs) (sym (add_assoc blocks (get_or bs i d).blocks n))
-              (c.rest ((get_or bs i d).blocks + n) (subst (λ cs. Counted set cs ((get_or bs i d).blocks + n)) (sym split) (counts just rest)));
-          few = omega (arith, few_here);
-        }
-
-    pub counting_past : (Just set (get_or bs i d) → ⊥) → Counting set bs (i + 1) blocks
-    counting_past other =
-        record {
-          rest = λ n rest. c.rest n (subst (λ cs. Counted set cs n) (sym split) (skips other rest));
-          few = omega (arith, few_here);
-        }
+  pub counted_fits : (bs : List Batch) → blocks_in (filter (has_just h) bs) ≤ blocks_in bs
+  counted_fits [] = omega arith
+  counted_fits (b ∷ bs) = elim (cases_Bool (has_just h b)) [
+    | inl e ↦ rw e (omega (arith, sum_by-cons (λ (c : Batch). c.blocks) b (filter (has_just h) bs), sum_by-cons (λ (c : Batch). c.blocks) b bs, counted_fits bs))
+    | inr e ↦ rw e (omega (arith, sum_by-cons (λ (c : Batch). c.blocks) b bs, counted_fits bs))
+  ]

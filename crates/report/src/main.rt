@@ -3,7 +3,6 @@
 
 use std::io;
 
-mod day;
 mod standing;
 mod sums;
 
@@ -11,10 +10,10 @@ use pace::{Backlog, Even};
 
 fn main(rt: HostRuntime) -> io::Result<()> {
     let pace = Backlog(Even);
-    let muster = day::muster(&rt, pace)?;
+    let muster = office_day::muster(&rt, pace)?;
     let mut book = muster.open();
-    day::morning(&rt, &mut book)?;
-    day::afternoon(&rt, &mut book)?;
+    office_day::morning(&rt, &mut book)?;
+    office_day::afternoon(&rt, &mut book)?;
     standing::print_machines(&rt, &book)?;
     standing::print_batches(&rt, &book)?;
     standing::print_sets(&rt, &book)?;

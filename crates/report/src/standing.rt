@@ -1,12 +1,12 @@
 // What stands in the book, printed.
-use crate::day::DayPace;
 use crate::sums::{all_blocks, all_capacities, blocks_of_set, is_new};
+use office_day::DayPace;
 use pace::Meter;
 use places::Places;
 use planner::{Machine, OpenBook};
 use std::io;
 
-pub(crate) fn print_machines(rt: &HostRuntime, book: &OpenBook<DayPace>) -> io::Result<()> {
+pub(crate) fn print_machines(rt: &impl Print, book: &OpenBook<DayPace>) -> io::Result<()> {
     println!(rt; "Machines: number, ticks, lot, backlog")?;
     for machine in book.machines() {
         let number = machine.number;
@@ -18,7 +18,7 @@ pub(crate) fn print_machines(rt: &HostRuntime, book: &OpenBook<DayPace>) -> io::
     Ok(())
 }
 
-pub(crate) fn print_batches(rt: &HostRuntime, book: &OpenBook<DayPace>) -> io::Result<()> {
+pub(crate) fn print_batches(rt: &impl Print, book: &OpenBook<DayPace>) -> io::Result<()> {
     println!(rt; "Batches: number, blocks, holders")?;
     for batch in book.batches() {
         let number = batch.number;
@@ -31,7 +31,7 @@ pub(crate) fn print_batches(rt: &HostRuntime, book: &OpenBook<DayPace>) -> io::R
 }
 
 // Each set of holders once, where the first of its batches stands.
-pub(crate) fn print_sets(rt: &HostRuntime, book: &OpenBook<DayPace>) -> io::Result<()> {
+pub(crate) fn print_sets(rt: &impl Print, book: &OpenBook<DayPace>) -> io::Result<()> {
     println!(rt; "Blocks by set of holders")?;
     let batches = book.batches();
     for (i, batch) in batches.iter().enumerate() {
@@ -46,7 +46,7 @@ pub(crate) fn print_sets(rt: &HostRuntime, book: &OpenBook<DayPace>) -> io::Resu
 }
 
 pub(crate) fn print_moment(
-    rt: &HostRuntime,
+    rt: &impl Print,
     book: &OpenBook<DayPace>,
     meter: &DayPace,
     moment: u64,
@@ -67,7 +67,7 @@ pub(crate) fn print_moment(
     println!(rt; "  in all {all}: they {reach} the {blocks} blocks")
 }
 
-fn print_holders(rt: &HostRuntime, machines: &[Machine], holders: Places) -> io::Result<()> {
+fn print_holders(rt: &impl Print, machines: &[Machine], holders: Places) -> io::Result<()> {
     for (place, machine) in machines.iter().enumerate() {
         if holders.contains(place) {
             let number = machine.number;

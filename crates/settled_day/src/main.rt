@@ -3,20 +3,20 @@
 
 use std::io;
 
-mod day;
 mod settled;
 
 use pace::{Backlog, Even};
 
 fn main(rt: HostRuntime) -> io::Result<()> {
     let pace = Backlog(Even);
-    let muster = day::muster(&rt, pace)?;
+    let muster = office_day::muster(&rt, pace)?;
     let mut book = muster.open();
-    day::morning(&rt, &mut book)?;
+    office_day::morning(&rt, &mut book)?;
     let settled = book.settle();
     settled::print_settled(&rt, &settled, &pace)?;
     let mut book = settled.reopen();
-    day::afternoon(&rt, &mut book)?;
+    println!(rt; "Calls after the book is opened again")?;
+    office_day::afternoon(&rt, &mut book)?;
     let settled = book.settle();
     settled::print_settled(&rt, &settled, &pace)
 }

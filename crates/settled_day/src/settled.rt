@@ -1,11 +1,11 @@
 // What is read from a settled book, printed.
-use crate::day::DayPace;
+use office_day::DayPace;
 use pace::Pace;
-use planner::{Refusal, SettledBook};
+use planner::SettledBook;
 use std::io;
 
 pub(crate) fn print_settled(
-    rt: &HostRuntime,
+    rt: &impl Print,
     book: &SettledBook<DayPace>,
     pace: &DayPace,
 ) -> io::Result<()> {
@@ -13,11 +13,11 @@ pub(crate) fn print_settled(
     print_shares(rt, book)?;
     match book.last_ending() {
         Ok(moment) => println!(rt; "Last ending {moment}"),
-        Err(refusal) => print_refusal(rt, refusal),
+        Err(refusal) => println!(rt; "  refused, {refusal}"),
     }
 }
 
-fn print_loads(rt: &HostRuntime, book: &SettledBook<DayPace>, pace: &DayPace) -> io::Result<()> {
+fn print_loads(rt: &impl Print, book: &SettledBook<DayPace>, pace: &DayPace) -> io::Result<()> {
     println!(rt; "Loads: machine, load, moment of its last block")?;
     for machine in book.machines() {
         let number = machine.number;
@@ -26,13 +26,13 @@ fn print_loads(rt: &HostRuntime, book: &SettledBook<DayPace>, pace: &DayPace) ->
                 let moment = pace.moment(machine.terms, load);
                 println!(rt; "  {number:>5} {load:>7} {moment:>11}")?;
             }
-            Err(refusal) => print_refusal(rt, refusal)?,
+            Err(refusal) => println!(rt; "  refused, {refusal}")?,
         }
     }
     Ok(())
 }
 
-fn print_shares(rt: &HostRuntime, book: &SettledBook<DayPace>) -> io::Result<()> {
+fn print_shares(rt: &impl Print, book: &SettledBook<DayPace>) -> io::Result<()> {
     println!(rt; "Shares: batch, machine, blocks")?;
     for batch in book.batches() {
         for (place, machine) in book.machines().iter().enumerate() {
@@ -45,18 +45,13 @@ fn print_shares(rt: &HostRuntime, book: &SettledBook<DayPace>) -> io::Result<()>
 }
 
 fn print_share(
-    rt: &HostRuntime,
+    rt: &impl Print,
     book: &SettledBook<DayPace>,
     batch: u32,
     machine: u16,
 ) -> io::Result<()> {
     match book.share(batch, machine) {
         Ok(blocks) => println!(rt; "  {batch:>5} {machine:>5} {blocks:>6}"),
-        Err(refusal) => print_refusal(rt, refusal),
+        Err(refusal) => println!(rt; "  refused, {refusal}"),
     }
-}
-
-fn print_refusal(rt: &HostRuntime, refusal: Refusal) -> io::Result<()> {
-    let number = refusal.number();
-    println!(rt; "  refused, {number}")
 }

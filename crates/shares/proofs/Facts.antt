@@ -1,6 +1,7 @@
 -- What the type of a book keeps, by places.
-use Rattle.std.proofs.Common.{◌≡◌, ℕ, zero, suc, ◌<◌, ◌≤◌, Bool, true, false, List, [], ◌∷◌, length, get_or, sym, refl, ap, ◌∙◌, inl, inr, arith, length-take}
+use Rattle.std.proofs.Common.{◌≡◌, ℕ, zero, suc, ◌<◌, ◌≤◌, Bool, true, false, List, [], ◌∷◌, length, get_or, sym, refl, ap, ◌∙◌, inl, inr, arith}
 use Rattle.std.proofs.lemmas.List.{length-map, get_or_default, get_or_past}
+use Rattle.std.proofs.lemmas.List.Sums.{sum_by-cons}
 use Rattle.std.proofs.lemmas.Bool.{and_parts, or_cases, not-true, both_ways}
 use Rattle.places.specs.Has.{has}
 use Rattle.places.proofs.Digits.{has_none}
@@ -29,7 +30,7 @@ some_where (suc n) p e = elim (or_cases (p n) (some_below n p) e) [
 
 blocks_total : (bs : List Batch) → blocks_in bs ≡ total (length bs) (λ b. (batch_at bs b).blocks)
 blocks_total [] = sym (total_none _)
-blocks_total (b ∷ bs) = omega (arith, blocks_total bs, total_first (length bs) (λ i. (batch_at (b ∷ bs) i).blocks))
+blocks_total (b ∷ bs) = omega (arith, sum_by-cons (λ c. c.blocks) b bs, blocks_total bs, total_first (length bs) (λ i. (batch_at (b ∷ bs) i).blocks))
 
 -- no machine holds a batch past the last one
 pub past_none : (bs : List Batch) (b i : ℕ) → length bs ≤ b → has (holders_at bs b) i ≡ false
@@ -37,10 +38,10 @@ past_none bs b i l = ap (λ (a : Batch). has a.holders i) (get_or_past bs b no_b
 
 module _ (k : Book) where
   pub few_machines : length (machines_in k) ≤ 32
-  few_machines = omega (arith, length-take k.roster.machines.count k.roster.machines.slots, k.roster.machines.fits)
+  few_machines = k.roster.few
 
   pub few_batches : length (batches_in k) ≤ 128
-  few_batches = omega (arith, length-take k.batches.count k.batches.slots, k.batches.fits)
+  few_batches = k.few
 
   pub number_at : (i : ℕ) → i < length (machines_in k) → get_or (machine_numbers (machines_in k)) i 0 ≡ (machine_at (machines_in k) i).number
   number_at i l = key_at (λ (m : Machine). m.number) (machines_in k) i (machine_at (machines_in k) i) l (get_or_default (machines_in k) i _ _ l)

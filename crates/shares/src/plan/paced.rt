@@ -23,7 +23,8 @@ impl<'a, P: Pace> Paced<'a, P> {
         ensures finds_a_machine_that_is_not_exhausted { MatchOption result ((i : ℕ) → i < machines_at self.entry.plan.now → self.entry.plan.now.width ≤ load_at self.entry.plan.now i → has exhausted i ≡ true) (λ i. (i < machines_at self.entry.plan.now) × (self.entry.plan.now.width ≤ load_at self.entry.plan.now i) × (has exhausted i ≡ false)) }
         ensures finds_the_latest { IfSome result (λ i. LatestPlan (P.Pace.table self.entry.pace.now) self.entry.plan.now (has exhausted) i) }
     {
-        // no chain by max_by_key over the order of marks, nor a loop over `iter`: each misses the bar of speed
+        // no chain by max_by_key over the order of marks, nor a `for` over an iterator of the places: each misses the bar
+        // of speed
         let mut left = self.plan.laden().minus(exhausted);
         let first = left.pop_first()?;
         Some(self.latest_of(left, first))

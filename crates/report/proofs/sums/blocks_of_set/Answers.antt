@@ -1,38 +1,31 @@
-use Rattle.std.proofs.Common.{arith}
-use Rattle.std.proofs.lemmas.Bool.{both_ways}
+use Rattle.std.proofs.Common.{rules, tests, ◌≡◌, ◌<◌, filter, subst, sym, arith}
+use Rattle.std.proofs.lemmas.Iterator.{YieldsList-from_slice, YieldsList-from_map}
+use Rattle.std.proofs.lemmas.Iterator.Consumers.{YieldsList-at, YieldsList-from_filter, sum_by_from_yields_List, fits_by_from_yields_list}
 use Rattle.places.specs.Has.{has}
-use Rattle.books.specs.Ranges.{no_batch}
-use Rattle.report.proofs.Counting.{counting_start, counting_end, counting_fits, counting_more, counting_past}
+use Rattle.books.specs.declared.batch.Batch.{Batch}
+use Rattle.books.specs.Ranges.{blocks_in}
+use Rattle.report.specs.Sets.{Counted}
+use Rattle.report.proofs.Counting.{has_just, counted, counted_fits}
 use Rattle.report.proofs.sums.blocks_of_set.Goals as goal
-use Rattle.report.proofs.sums.blocks_of_set.Goals.{then-eq, else-eq}
 
-pub loop-batch-init : goal.loop-batch-init
-loop-batch-init c = counting_start (has c.args.holders) c.args.batches.now c.requires.few
-
-pub overflow_add-blocks : goal.overflow_add-blocks
-overflow_add-blocks c =
-    omega (
-      arith,
-      counting_fits (has c.args.holders) c.args.batches.now c.loop-batch.batch-index c.loop-batch.blocks no_batch
-          c.loop-batch-test.true c.loop-batch.invariant,
-    )
-
-pub loop-batch-preserved : goal.loop-batch-preserved
-loop-batch-preserved c =
-    elim c.if-eq.branch [
-      | then-eq w ↦
-          rw w.blocks-is
-          (counting_more (has c.args.holders) c.args.batches.now c.loop-batch.batch-index c.loop-batch.blocks no_batch
-          c.loop-batch-test.true c.loop-batch.invariant (c.eq.ensures.tells_whether_both_hold_the_same_places.0 w.if-eq.true))
-      | else-eq w ↦
-          rw w.blocks-is
-          (counting_past (has c.args.holders) c.args.batches.now c.loop-batch.batch-index c.loop-batch.blocks no_batch
-          c.loop-batch-test.true c.loop-batch.invariant (λ just. both_ways _ w.if-eq.false (c.eq.ensures.tells_whether_both_hold_the_same_places.1 just)))
-    ]
+pub sum-requires-clause-fits : goal.sum-requires-clause-fits
+sum-requires-clause-fits c =
+    let bs = c.args.batches.now in
+    let h = c.args.holders in
+    let few : blocks_in (filter (has_just h) bs) < 4294967296 = omega (arith, counted_fits h bs) in
+    fits_by_from_yields_list (λ (b : Batch). b.blocks) (filter (has_just h) bs) c.map.result _
+    (YieldsList-from_map _ (λ (b : Batch). b.blocks)
+    (YieldsList-at c.map.ensures.source (YieldsList-from_filter _ (has_just h) (YieldsList-at c.filter.ensures.source (YieldsList-from_slice bs (cc))) c.filter.ensures.closure (λ x b q k. search (rules, tests))))
+    c.map.ensures.closure (λ x r q k. search (rules, tests)))
+    few
 
 pub returns : goal.returns
 returns c =
-    record {
-      counts_the_batches_with_just_these_holders =
-          counting_end (has c.args.holders) c.args.batches.now c.loop-batch.batch-index c.loop-batch.blocks c.loop-batch-test.false c.loop-batch.invariant;
-    }
+    let bs = c.args.batches.now in
+    let h = c.args.holders in
+    let told : c.sum.result ≡ blocks_in (filter (has_just h) bs) =
+    sum_by_from_yields_List (λ (b : Batch). b.blocks) (filter (has_just h) bs) c.map.result c.sum.result c.sum.ensures.ran
+    (YieldsList-from_map _ (λ (b : Batch). b.blocks)
+    (YieldsList-at c.map.ensures.source (YieldsList-from_filter _ (has_just h) (YieldsList-at c.filter.ensures.source (YieldsList-from_slice bs (cc))) c.filter.ensures.closure (λ x b q k. search (rules, tests))))
+    c.map.ensures.closure (λ x r q k. search (rules, tests))) in
+    record { counts_the_batches_with_just_these_holders = subst (Counted (has h) bs) (sym told) (counted h bs) }

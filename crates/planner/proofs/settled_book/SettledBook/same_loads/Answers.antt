@@ -3,14 +3,11 @@ use Rattle.planner.proofs.Standings.{shared}
 use Rattle.planner.proofs.Laws.{equal_books}
 use Rattle.planner.proofs.settled_book.SettledBook.same_loads.Goals as goal
 
-pub returns : goal.returns
-returns g c =
+pub returns-clause-equal_books_have_equal_loads : goal.returns-clause-equal_books_have_equal_loads
+returns-clause-equal_books_have_equal_loads g c alike =
     let k = c.args.self.now.plan in
     let k' = c.args.other.now.plan in
     let pace = c.args.self.now.pace in
-    let told = c.loads_agree.ensures.tells_whether_numbers_and_loads_agree in
-    record {
-      tells_whether_numbers_and_loads_agree = told;
-      equal_books_have_equal_loads = λ cx cy tables machines blocks.
-          told.1 (equal_books k.book k'.book (g.P.Pace.table pace) (g.Q.Pace.table c.args.other.now.pace) (g.met.P.Pace.never_falls pace) (share k) (share k') (shared k) (shared k') cx cy tables machines blocks);
-    }
+    let pace' = c.args.other.now.pace in
+    c.loads_agree.ensures.tells_whether_numbers_and_loads_agree.1
+    (equal_books k.book k'.book (g.P.Pace.table pace) (g.Q.Pace.table pace') (g.met.P.Pace.never_falls pace) (share k) (share k') (shared k) (shared k') alike)
