@@ -1,5 +1,5 @@
 -- Blocks of one batch, moved from a machine to another: what stays true of shares, loads and links.
-use Rattle.std.proofs.Common.{◌≡◌, ℕ, ◌+◌, ◌<◌, Bool, true, false, eqb, List, length, set, sym, ap, ◌∙◌, inl, inr, arith}
+use Rattle.std.proofs.Common.{◌≡◌, ℕ, ◌+◌, ◌<◌, ◌≤◌, Bool, true, false, eqb, List, length, set, sym, ap, ◌∙◌, inl, inr, arith}
 use Rattle.std.proofs.lemmas.List.{get_or-set_same, get_or-set_other, length-set}
 use Rattle.std.proofs.lemmas.Bool.{cases_eq}
 use Rattle.theory.specs.Sums.{only}
@@ -58,6 +58,10 @@ module _ (ss : List Station) (v u : ℕ) (s t : Station) (lv : v < length ss) (l
         (λ _. into s (lost (back (station_at ss v) (λ k. led v k mv))))
         (λ _. into t (gained (back (station_at ss u) (λ k. led u k mu))))
         (λ q _ _ lq k. led q k lq) i l j
+
+-- off the place that they leave, blocks only come
+pub moved_gains : {a b v u : ℕ} {x y : ℕ → ℕ → ℕ} → Moved a b v u x y → (c q : ℕ) → (q ≡ v → ⊥) → x c q ≤ y c q
+moved_gains {a} {b} {v} {u} mv c q d = omega (arith, mv.cells c q, at_off b v c q a d)
 
 -- a machine that is no holder has none after the move either
 pub held_after : {a b v u : ℕ} {x y : ℕ → ℕ → ℕ} (H : ℕ → ℕ → Bool) → Moved a b v u x y → H b u ≡ true → ((c q : ℕ) → H c q ≡ false → x c q ≡ 0)

@@ -4,15 +4,13 @@
 // `width`. Machines are relieved from the latest mark down. A machine that no chain relieves is exhausted, with all
 // that it leads to: these end no later and lead nowhere else, and no later move makes one of them worth a try. So the
 // exhausted machines only grow, and at most 32 tries of a run fail. Each move lowers the total of all marks.
-ghost use Rattle.std.specs.Prelude.{◌≡◌, ℕ, ◌+◌, ◌-◌, ◌<◌, ◌≤◌, true, false, ◌&&◌, ◌||◌, length, IfSome, MatchOption, ◌==◌, nat_le, nat_lt};
+ghost use Rattle.std.specs.Prelude.{◌≡◌, ℕ, ◌<◌, ◌≤◌, true, false, IfSome, MatchOption};
 ghost use Rattle.places.specs.Has.{has, size};
 ghost use Rattle.theory.specs.Moves.{total_of_marks};
-ghost use Rattle.books.specs.Views.{machines_in};
 ghost use Rattle.shares.specs.Cells.{nth};
 ghost use Rattle.shares.specs.Levels.{ClosedBy};
-ghost use Rattle.shares.specs.Marks.{machine_at, mark_of};
 ghost use Rattle.shares.specs.Tables.{demand_of};
-ghost use Rattle.shares.specs.Plans.{machines_at, share, load_at, values_in, helps, Outreach, ExhaustedPlan, LatestPlan, LevelPlan};
+ghost use Rattle.shares.specs.Plans.{machines_at, share, load_at, values_in, Outreach, ExhaustedPlan, LatestPlan, LevelPlan};
 
 use super::Plan;
 use super::paced::Paced;

@@ -1,7 +1,8 @@
 use Rattle.std.proofs.lemmas.Bool.{both_ways}
 use Rattle.places.specs.Has.{has}
-use Rattle.std.proofs.Common.{◌∙◌, ap, arith}
-use Rattle.theory.proofs.Moves.{at_off}
+use Rattle.std.proofs.Common.{◌∙◌, sym, rules, ◌≡◌, ◌<◌, ap, arith}
+use Rattle.theory.proofs.Moves.{moved_else}
+use Rattle.shares.proofs.Shifting.{moved_gains}
 use Rattle.shares.specs.Cells.{nth}
 use Rattle.shares.proofs.Stepping.{steps_fall}
 use Rattle.shares.proofs.plan.Plan.+augment.Goals as goal
@@ -15,24 +16,14 @@ augment-got-requires t c =
 pub returns-clause-keeps_what_lies_outside_the_reach : goal.returns-clause-keeps_what_lies_outside_the_reach
 returns-clause-keeps_what_lies_outside_the_reach t c = λ b k out.
     let r = c.requires in
-    let before = nth c.args.reach.now.before c.args.i in
-    let inside = (r.chained.linked c.args.i r.reached c.if-i-start.false).inside in
     let S = has c.args.reach.now.places in
-    omega (
-      arith,
-      c.augment-got.ensures.keeps_what_lies_outside_the_reach b k out,
-      c.shift.ensures.moves_the_blocks.cells b k,
-      at_off c.link-batch.result.0 before b k c.augment-got.result (λ e. both_ways (S k) out (ap S e ∙ inside)),
-      at_off c.link-batch.result.0 c.args.i b k c.augment-got.result (λ e. both_ways (S k) out (ap S e ∙ r.reached)),
-    )
+    let not-before : k ≡ nth c.args.reach.now.before c.args.i → ⊥ = λ e. both_ways (S k) out (ap S e ∙ (r.chained.linked c.args.i r.reached c.if-i-start.false).inside) in
+    let not-i : k ≡ c.args.i → ⊥ = λ e. both_ways (S k) out (ap S e ∙ r.reached) in
+    sym (moved_else c.shift.ensures.moves_the_blocks k (search rules) (search rules) b) ∙ c.augment-got.ensures.keeps_what_lies_outside_the_reach b k out
 
 pub returns-clause-takes_none_from_later_stages : goal.returns-clause-takes_none_from_later_stages
 returns-clause-takes_none_from_later_stages t c = λ chain b k l.
     let before = nth c.args.reach.now.before c.args.i in
-    let earlier = (chain.linked c.args.i c.requires.reached c.if-i-start.false).earlier in
-    omega (
-      arith,
-      c.augment-got.ensures.takes_none_from_later_stages chain b k (omega (arith, earlier, l)),
-      c.shift.ensures.moves_the_blocks.cells b k,
-      at_off c.link-batch.result.0 before b k c.augment-got.result (λ e. omega (arith, earlier, l, ap chain.stage e)),
-    )
+    let earlier : chain.stage before < chain.stage c.args.i = (chain.linked c.args.i c.requires.reached c.if-i-start.false).earlier in
+    let not-before : k ≡ before → ⊥ = λ e. omega (arith, earlier, l, ap chain.stage e) in
+    omega (arith, c.augment-got.ensures.takes_none_from_later_stages chain b k (omega (arith, earlier, l)), moved_gains c.shift.ensures.moves_the_blocks b k not-before)
