@@ -42,7 +42,7 @@ pub enum Refusal {
 }
 
 impl Refusal {
-    // The number by which it is told.
+    // The number by which it is told: a word of the rules, which `u8::from` would not say.
     pub fn number(self) -> u8
         ensures is_the_number_of_its_case { result ≡ (case_of self).number }
     {

@@ -30,7 +30,7 @@ impl<P: Meter> Muster<P> {
 }
 
 impl<P> Muster<P> {
-    // The machines, in ascending number.
+    // The machines, in ascending number. A method of each state, since a trait would be an import for every caller.
     pub fn machines(&self) -> &[Machine]
         ensures lends_the_machines { result.now ≡ (in_muster self.now).machines }
         ensures lends_them_in_order_and_range { IsMachineList result.now }

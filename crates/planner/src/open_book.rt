@@ -19,7 +19,7 @@ pub struct OpenBook<P> {
 }
 
 impl<P> OpenBook<P> {
-    // The machines, in ascending number.
+    // The machines, in ascending number. A method of each state, since a trait would be an import for every caller.
     pub fn machines(&self) -> &[Machine]
         ensures lends_the_machines { result.now ≡ (in_book self.now).machines }
         ensures lends_them_in_order_and_range { IsMachineList result.now }
@@ -27,7 +27,7 @@ impl<P> OpenBook<P> {
         self.book.machines()
     }
 
-    // The batches, in ascending number. Their holders are places among the machines.
+    // The batches, in ascending number. Their holders are places among the machines. A method of each state, as `machines`.
     pub fn batches(&self) -> &[Batch]
         ensures lends_the_batches { map (batch_of (in_book self.now).machines) result.now
             ≡ (in_book self.now).batches }

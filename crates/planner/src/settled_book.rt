@@ -14,7 +14,8 @@ use books::{Batch, Machine, Refusal};
 use pace::Pace;
 use shares::Plan;
 
-// The plan's type keeps that its shares are complete and its loads their sums.
+// The plan's type keeps that its shares are complete and its loads their sums. This type does not keep what `settle`
+// promises by the pace's table: the bound for it would ask a pace of every caller that only reads.
 #[derive(Drop)]
 pub struct SettledBook<P> {
     pub(crate) pace: P,
@@ -22,7 +23,7 @@ pub struct SettledBook<P> {
 }
 
 impl<P> SettledBook<P> {
-    // The machines, in ascending number.
+    // The machines, in ascending number. A method of each state, since a trait would be an import for every caller.
     pub fn machines(&self) -> &[Machine]
         ensures lends_the_machines { result.now ≡ (in_settled self.now).machines }
         ensures lends_them_in_order_and_range { IsMachineList result.now }
@@ -30,7 +31,7 @@ impl<P> SettledBook<P> {
         self.plan.book().machines()
     }
 
-    // The batches, in ascending number. Their holders are places among the machines.
+    // The batches, in ascending number. Their holders are places among the machines. A method of each state, as `machines`.
     pub fn batches(&self) -> &[Batch]
         ensures lends_the_batches { map (batch_of (in_settled self.now).machines) result.now
             ≡ (in_settled self.now).batches }

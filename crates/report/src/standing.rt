@@ -67,6 +67,7 @@ pub(crate) fn print_moment(
     println!(rt; "  in all {all}: they {reach} the {blocks} blocks")
 }
 
+// No `Display` of the holders: their places are numbers by the book's machines only.
 fn print_holders(rt: &impl Print, machines: &[Machine], holders: Places) -> io::Result<()> {
     for (place, machine) in machines.iter().enumerate() {
         if holders.contains(place) {
