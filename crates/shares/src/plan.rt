@@ -17,7 +17,8 @@ mod paced;
 mod read;
 mod settle;
 
-// Its type keeps that the share-out is complete, and where the links lead.
+// Its type keeps that the share-out is complete, and where the links lead. So a function that moves blocks has to say that
+// it keeps the book: shares in a type apart from the book could not be complete for its batches.
 #[derive(Drop)]
 pub struct Plan {
     book: Book,

@@ -8,7 +8,8 @@ ghost use Rattle.shares.specs.Reaches.{Reached, Noted};
 use crate::station::Station;
 use places::Places;
 
-// Each place but the starts has the place that leads to it, found before it: so a chain back ends at a start.
+// Each place but the starts has the place that leads to it, found before it: so a chain back ends at a start. Places and
+// no references, since the tables lie in fixed memory.
 #[derive(Clone, Copy)]
 pub(crate) struct Reach {
     pub(crate) places: Places,

@@ -10,6 +10,7 @@ use crate::mark::Mark;
 use pace::Pace;
 use places::Places;
 
+// Each function asks that its machines stand, since that relates a place to the plan: no type of a place could keep it.
 #[derive_where(Clone, Copy)]
 pub(super) struct Paced<'a, P> {
     pub(super) plan: &'a Plan,
@@ -113,7 +114,8 @@ impl<'a, P: Pace> Paced<'a, P> {
         next.is_before(self.mark_back(i, blocks))
     }
 
-    // The most blocks that it helps to move from machine i to machine j, if it helps for `width`.
+    // The most blocks that it helps to move from machine i to machine j, if it helps for `width`. Sought by halves; the
+    // library does so in slices, but not among numbers.
     fn most(self, i: usize, j: usize) -> u32
         requires stand { (i < machines_at self.plan.now) × (j < machines_at self.plan.now) }
         requires there { self.plan.now.width ≤ load_at self.plan.now i }
