@@ -5,6 +5,8 @@ use planner::{Muster, OpenBook, Refusal};
 
 type Plain = Backlog<Even>;
 
+// Refusals stand in the tables by their numbers, since the rules give them and these are what is tested.
+
 // the number, ticks, lot and backlog of a machine that is handed in to a muster of the machines 1 to 32, and the number of
 // the refusal
 const ENLISTS: [(u16, u16, u16, u32, u8); 10] = [
