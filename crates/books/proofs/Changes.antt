@@ -1,6 +1,5 @@
 -- A batch that is found or missing in a sound book: what its checks ask, and what its change leaves.
-use Rattle.std.specs.Result.{result_or}
-use Rattle.std.proofs.Common.{Result, Ok, Err, MatchResult, IfOk, ◌≡◌, ℕ, ◌+◌, ◌-◌, ◌<◌, ◌≤◌, Bool, true, false, not, ◌&&◌, ltb, List, [], ◌∷◌, map, length, get_or, set, sym, refl, subst, ap, ◌∙◌, arith}
+use Rattle.std.proofs.Common.{Result, Ok, Err, MatchResult, IfOk, IsErrAnd, ◌≡◌, ℕ, ◌+◌, ◌-◌, ◌<◌, ◌≤◌, Bool, true, false, not, ◌&&◌, ltb, List, [], ◌∷◌, map, length, get_or, set, sym, refl, subst, ap, ◌∙◌, arith}
 use Rattle.std.specs.List.{insert, remove}
 use Rattle.std.proofs.lemmas.List.{length-map, map-set, set-get_or, get_or-map, get_or_default}
 use Rattle.std.proofs.lemmas.List.Sums.{sum_by-insert, sum_by-remove, sum_by-set}
@@ -85,14 +84,15 @@ pub record Stands (k : Book) (b i : ℕ) (c : Batch) : Type 0 where
   pub read : c ≡ get_or (batches_in k) i c
 
 -- a batch that was found, where a refusal would have told that there is none
-pub stands_or : (k : Book) {b i : ℕ} {c : Batch} (unknown : Refusal) (r : Result (ℕ × Batch) ℕ) → Ok (i, c) ≡ result_or r (Err unknown)
+pub stands_or : (k : Book) {b i : ℕ} {c : Batch} (r : Result (ℕ × Batch) ℕ) (s : Result (ℕ × Batch) Refusal) (Q : ℕ → Refusal → Type 0)
+    → MatchResult r (λ x. s ≡ Ok x) (λ e. IsErrAnd s (Q e)) → s ≡ Ok (i, c)
     → MatchResult r (λ p. Found b (numbers_of (batches_in k)) p.0) (Missing b (numbers_of (batches_in k)))
     → IfOk r (λ p. p.1 ≡ get_or (batches_in k) p.0 p.1) → Stands k b i c
-stands_or k {b} {i} {c} unknown (Ok p) is found read =
+stands_or k {b} {i} {c} (Ok p) s Q same is found read =
     let at_p : Stands k b p.0 p.1 = record { found = found; read = read } in
-    let same : p ≡ (i, c) = cc in
-    rw same at at_p
-stands_or k unknown (Err j) is found read = grind (arith, is)
+    let here : p ≡ (i, c) = cc in
+    rw here at at_p
+stands_or k (Err j) s Q told is found read = absurd (rw is at told)
 
 module _ {k : Book} {b i : ℕ} {c : Batch} (here : Stands k b i c) where
   pub found_within : i < length (batches_in k)

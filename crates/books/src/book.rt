@@ -65,10 +65,8 @@ impl Book {
         ensures tells_what_stands { MatchResult result (λ p. IsRead (standing_of self.now) number p.1) (λ _. IsAbsent (standing_of self.now) number) }
     {
         let batches = self.batches();
-        match find(batches, number) {
-            Ok(at) => Ok((at, batches[at])),
-            Err(at) => Err(at),
-        }
+        let at = find(batches, number)?;
+        Ok((at, batches[at]))
     }
 
     // The place of the batch with the number.
@@ -158,7 +156,7 @@ impl Book {
         ensures leaves_the_batches_sound { IfOk result (λ e. Sound (length (machines_in self.now)) (edited e (batches_in self.now)) (self.now.blocks - blocks)) }
         ensures takes_the_blocks { IfOk result (λ e. map (batch_of (machines_in self.now)) (edited e (batches_in self.now)) ≡ fewer_blocks number blocks (standing_of self.now).batches) }
     {
-        let (at, batch) = self.find(number).or(Err(Refusal::BatchUnknown))?;
+        let (at, batch) = self.find(number).map_err(|_| Refusal::BatchUnknown)?;
         refuse_if(batch.blocks < blocks, Refusal::BatchFewer)?;
         if batch.blocks == blocks {
             return Ok(Edit::Remove(at));
@@ -170,7 +168,8 @@ impl Book {
         Ok(Edit::Replace(at, fewer))
     }
 
-    // Writes a change after which the book has so many blocks.
+    // Writes a change after which the book has so many blocks. What it asks relates the change to the book, so no type of
+    // either could keep it.
     fn apply(&mut self, edit: Edit, blocks: u32)
         requires can_be_made { CanBeMade edit (batches_in self.old) }
         requires leaves_the_batches_sound { Sound (length (machines_in self.old)) (edited edit (batches_in self.old)) blocks }

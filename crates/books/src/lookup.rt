@@ -32,5 +32,5 @@ pub(crate) fn place_of<R: Numbered>(
     ensures refuses_just_where_there_is_none { ascending (map R.key records.now) ≡ true → refusal_in result ≡ (if not (among number (map R.key records.now)) then Some unknown else None) }
     ensures finds_the_place { ascending (map R.key records.now) ≡ true → IfOk result (Found number (map R.key records.now)) }
 {
-    find(records, number).or(Err(unknown))
+    find(records, number).map_err(|_| unknown)
 }
