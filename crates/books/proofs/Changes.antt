@@ -57,26 +57,23 @@ module _ {k : Book} {b i : ℕ} (lacks : Lacks k b i) where
   pub missing_blocks : blocks_of b (standing_of k).batches ≡ 0
   missing_blocks = blocks_missing b (standing_of k).batches missing_stands
 
-  module _ {n : ℕ} {p : Places} {hs : List ℕ} (asked : Asked (machines_in k) b n p hs) where
-    pub sound_inserted : Sound (length (machines_in k)) (insert (batches_in k) i (record { number = b; blocks = n; holders = p })) (k.blocks + n)
-    sound_inserted =
-        record {
-          ascends = ascending_inserted (λ d. d.number) new (batches_in k) i k.ascends lacks.missing;
-          in_range = all_inserted (batch_in_range (length (machines_in k))) (batches_in k) i new k.in_range
-              (and_from _ _ (and_from _ _ (not_from_false _ asked.number_in_range) (not_from_false _ asked.blocks_in_range))
-              (some_held (has p) (machines_in k) (omega (arith, asked.some, ap length asked.just))));
-          manned = manned_inserted (length (machines_in k)) (batches_in k) i new k.manned asked.within;
-          summed = omega (arith, k.summed, sum_by-insert (λ d. d.blocks) (batches_in k) i new);
-        }
-      where
-        new : Batch
-        new = record { number = b; blocks = n; holders = p }
+module _ {k : Book} {new : Batch} {i : ℕ} {hs : List ℕ} (lacks : Lacks k new.number i) (asked : Asked (machines_in k) new hs) where
+  pub sound_inserted : Sound (length (machines_in k)) (insert (batches_in k) i new) (k.blocks + new.blocks)
+  sound_inserted =
+      record {
+        ascends = ascending_inserted (λ d. d.number) new (batches_in k) i k.ascends lacks.missing;
+        in_range = all_inserted (batch_in_range (length (machines_in k))) (batches_in k) i new k.in_range
+            (and_from _ _ (and_from _ _ (not_from_false _ asked.number_in_range) (not_from_false _ asked.blocks_in_range))
+            (some_held (has new.holders) (machines_in k) (omega (arith, asked.some, ap length asked.just))));
+        manned = manned_inserted (length (machines_in k)) (batches_in k) i new k.manned asked.within;
+        summed = omega (arith, k.summed, sum_by-insert (λ d. d.blocks) (batches_in k) i new);
+      }
 
-    pub view_inserted : map (batch_of (machines_in k)) (insert (batches_in k) i (record { number = b; blocks = n; holders = p })) ≡ more_blocks b n hs (standing_of k).batches
-    view_inserted =
-        map_inserted (batch_of (machines_in k)) (batches_in k) i (record { number = b; blocks = n; holders = p })
-        ∙ ap (λ ks. insert (standing_of k).batches i (record { number = b; blocks = n; holders = ks })) asked.just
-        ∙ more_missing b n hs (standing_of k).batches i missing_view
+  pub view_inserted : map (batch_of (machines_in k)) (insert (batches_in k) i new) ≡ more_blocks new.number new.blocks hs (standing_of k).batches
+  view_inserted =
+      map_inserted (batch_of (machines_in k)) (batches_in k) i new
+      ∙ ap (λ ks. insert (standing_of k).batches i (record { number = new.number; blocks = new.blocks; holders = ks })) asked.just
+      ∙ more_missing new.number new.blocks hs (standing_of k).batches i (missing_view lacks)
 
 -- the batch b of the book k is c, and stands at the place i
 pub record Stands (k : Book) (b i : ℕ) (c : Batch) : Type 0 where
@@ -123,20 +120,20 @@ module _ {k : Book} {b i : ℕ} {c : Batch} (here : Stands k b i c) where
   held_within q is = k.manned i q (ap (λ d. has d.holders q) (at_is no_batch) ∙ is)
 
   -- other places are other holders
-  pub found_other : {n : ℕ} {p : Places} {hs : List ℕ} → Asked (machines_in k) b n p hs
-      → not (same_places c.holders p) ≡ (among b (batch_numbers (standing_of k).batches) && not (same hs (holders_of b (standing_of k).batches)))
-  found_other {p} {hs} asked = grind (arith, same_is, found_stands)
+  pub found_other : {a : Batch} {hs : List ℕ} → Asked (machines_in k) a hs
+      → not (same_places c.holders a.holders) ≡ (among b (batch_numbers (standing_of k).batches) && not (same hs (holders_of b (standing_of k).batches)))
+  found_other {a} {hs} asked = grind (arith, same_is, found_stands)
     where
       equal : Bool
-      equal = same_places c.holders p
+      equal = same_places c.holders a.holders
 
       equal_places : equal ≡ true → same hs (holders_of b (standing_of k).batches) ≡ true
       equal_places yes-equal =
-          ap (same hs) (found_holders ∙ numbers_same (has c.holders) (has p) (machines_in k) ((same_places_decides c.holders p).0 yes-equal) ∙ asked.just) ∙ same_refl hs
+          ap (same hs) (found_holders ∙ numbers_same (has c.holders) (has a.holders) (machines_in k) ((same_places_decides c.holders a.holders).0 yes-equal) ∙ asked.just) ∙ same_refl hs
 
       equal_numbers : same hs (holders_of b (standing_of k).batches) ≡ true → equal ≡ true
       equal_numbers yes-same =
-          (same_places_decides c.holders p).1 (places_same (has c.holders) (has p) (machines_in k) k.roster.ascends held_within asked.within
+          (same_places_decides c.holders a.holders).1 (places_same (has c.holders) (has a.holders) (machines_in k) k.roster.ascends held_within asked.within
           (sym found_holders ∙ sym (same_eq hs (holders_of b (standing_of k).batches) yes-same) ∙ sym asked.just))
 
       same_is : same hs (holders_of b (standing_of k).batches) ≡ equal
@@ -224,7 +221,7 @@ module _ (k : Book) {bs : List Batch} (lent : bs ≡ batches_in k) {n i : ℕ} w
 -- what a hold asks for once its ranges and its holders are checked
 pub asked_from : (k : Book) {b n : ℕ} {p : Places} {hs : List ℕ} → true ≡ (not (bad_batch_number b) && not (bad_blocks n))
     → outside 1 32 (length hs) ≡ false
-    → numbers_at (has p) (machines_in k) ≡ hs → ((i : ℕ) → has p i ≡ true → i < length (machines_in k)) → Asked (machines_in k) b n p hs
+    → numbers_at (has p) (machines_in k) ≡ hs → ((i : ℕ) → has p i ≡ true → i < length (machines_in k)) → Asked (machines_in k) (record { number = b; blocks = n; holders = p }) hs
 asked_from k {b} {n} {p} {hs} ranges few just inside =
     let parts = and_parts (not (bad_batch_number b)) (not (bad_blocks n)) (sym ranges) in
     record {

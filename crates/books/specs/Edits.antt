@@ -2,10 +2,10 @@
 --   edited e bs           the batches bs after the change e
 --   CanBeMade e bs        the change can be made: its place is there, and an insertion has room
 --   Sound n bs blocks     what the type of a book with n machines keeps of its batches bs, which have so many blocks
---   Asked ..              blocks for a batch, both in range, with the places of the machines that are to hold it
+--   Asked ms b hs         the batch b may be asked for: number and blocks in range, and its holders are those of the machines
+--                         ms that have the numbers hs, one at least
 use Rattle.std.specs.Prelude.{◌≡◌, ℕ, ◌<◌, ◌≤◌, true, false, List, length, slice_set}
 use Rattle.std.specs.List.{insert, remove, list_all}
-use Rattle.places.specs.declared.Places.{Places}
 use Rattle.places.specs.Has.{has}
 use Rattle.books.specs.declared.machine.Machine.{Machine}
 use Rattle.books.specs.declared.batch.Batch.{Batch}
@@ -31,9 +31,9 @@ pub record Sound (n : ℕ) (bs : List Batch) (blocks : ℕ) : Type 0 where
   pub manned : Manned n bs
   pub summed : blocks_in bs ≡ blocks
 
-pub record Asked (ms : List Machine) (number blocks : ℕ) (holders : Places) (hs : List ℕ) : Type 0 where
-  pub number_in_range : bad_batch_number number ≡ false
-  pub blocks_in_range : bad_blocks blocks ≡ false
+pub record Asked (ms : List Machine) (b : Batch) (hs : List ℕ) : Type 0 where
+  pub number_in_range : bad_batch_number b.number ≡ false
+  pub blocks_in_range : bad_blocks b.blocks ≡ false
   pub some : 1 ≤ length hs
-  pub just : numbers_at (has holders) ms ≡ hs
-  pub within : (k : ℕ) → has holders k ≡ true → k < length ms
+  pub just : numbers_at (has b.holders) ms ≡ hs
+  pub within : (k : ℕ) → has b.holders k ≡ true → k < length ms

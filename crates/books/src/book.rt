@@ -99,8 +99,12 @@ impl Book {
         ensures adds_the_blocks_where_accepted { OnOk result (standing_of self.new ≡ after (Hold number blocks holders.now) (standing_of self.old)) }
     {
         check_batch(number, blocks)?;
-        let places = self.roster.places_of(holders)?;
-        let edit = self.edit_to_hold(number, blocks, places)?;
+        let holders = self.roster.places_of(holders)?;
+        let edit = self.edit_to_hold(Batch {
+            number,
+            blocks,
+            holders,
+        })?;
         refuse_if(self.blocks + blocks > 1_000_000, Refusal::BookPasses)?;
         self.apply(edit, self.blocks + blocks);
         Ok(())
@@ -118,17 +122,17 @@ impl Book {
         Ok(())
     }
 
-    // The change that adds the blocks.
-    fn edit_to_hold(&self, number: u32, blocks: u32, holders: Places) -> Result<Edit, Refusal>
-        ensures refuses_by_the_first_check_of_the_batch { (hs : List ℕ) → Asked (machines_in self.now) number blocks holders hs → refusal_in result ≡ first_of (Refusal.OtherHolders ∷ Refusal.BatchesFull ∷ Refusal.BatchPasses ∷ []) (handed (Hold number blocks hs)) (standing_of self.now) }
+    // The change that adds the blocks of the batch that is asked for.
+    fn edit_to_hold(&self, asked: Batch) -> Result<Edit, Refusal>
+        ensures refuses_by_the_first_check_of_the_batch { (hs : List ℕ) → Asked (machines_in self.now) asked hs → refusal_in result ≡ first_of (Refusal.OtherHolders ∷ Refusal.BatchesFull ∷ Refusal.BatchPasses ∷ []) (handed (Hold asked.number asked.blocks hs)) (standing_of self.now) }
         ensures can_be_made { IfOk result (λ e. CanBeMade e (batches_in self.now)) }
-        ensures leaves_the_batches_sound { IfOk result (λ e. (hs : List ℕ) → Asked (machines_in self.now) number blocks holders hs → Sound (length (machines_in self.now)) (edited e (batches_in self.now)) (self.now.blocks + blocks)) }
-        ensures adds_the_blocks { IfOk result (λ e. (hs : List ℕ) → Asked (machines_in self.now) number blocks holders hs → map (batch_of (machines_in self.now)) (edited e (batches_in self.now)) ≡ more_blocks number blocks hs (standing_of self.now).batches) }
+        ensures leaves_the_batches_sound { IfOk result (λ e. (hs : List ℕ) → Asked (machines_in self.now) asked hs → Sound (length (machines_in self.now)) (edited e (batches_in self.now)) (self.now.blocks + asked.blocks)) }
+        ensures adds_the_blocks { IfOk result (λ e. (hs : List ℕ) → Asked (machines_in self.now) asked hs → map (batch_of (machines_in self.now)) (edited e (batches_in self.now)) ≡ more_blocks asked.number asked.blocks hs (standing_of self.now).batches) }
     {
-        match self.find(number) {
+        match self.find(asked.number) {
             Ok((at, batch)) => {
-                refuse_if(batch.holders != holders, Refusal::OtherHolders)?;
-                let total = batch.blocks.saturating_add(blocks);
+                refuse_if(batch.holders != asked.holders, Refusal::OtherHolders)?;
+                let total = batch.blocks.saturating_add(asked.blocks);
                 refuse_if(total > 99_999, Refusal::BatchPasses)?;
                 let more = Batch {
                     blocks: total,
@@ -138,12 +142,7 @@ impl Book {
             }
             Err(at) => {
                 refuse_if(self.batches.is_full(), Refusal::BatchesFull)?;
-                let batch = Batch {
-                    number,
-                    blocks,
-                    holders,
-                };
-                Ok(Edit::Insert(at, batch))
+                Ok(Edit::Insert(at, asked))
             }
         }
     }

@@ -20,10 +20,10 @@ after_holders = OtherHolders ∷ BatchesFull ∷ BatchPasses ∷ BookPasses ∷ 
 
 pub returns-in_err-edit-clause-refuses_by_the_first_check_that_applies : goal.returns-in_err-edit-clause-refuses_by_the_first_check_that_applies
 returns-in_err-edit-clause-refuses_by_the_first_check_that_applies c =
-    let held = c.in_ok-places.ensures in
+    let held = c.in_ok-holders.ensures in
     let h : Handed = handed (Hold c.args.number c.args.blocks c.args.holders.now) in
     let s = standing_of c.args.self.now in
-    let asked : Asked (machines_in c.args.self.now) c.args.number c.args.blocks c.in_ok-places.places c.args.holders.now =
+    let asked : Asked (machines_in c.args.self.now) (record { number = c.args.number; blocks = c.args.blocks; holders = c.in_ok-holders.holders }) c.args.holders.now =
     asked_from c.args.self.now c.in_ok-check_batch.ensures.passes_just_what_is_in_range (grind (arith, nat_tests)) held.holds_the_places_of_just_these_machines held.holds_places_of_machines_only in
     let p = err_from_is_err_and c.from_residual-in_err-edit.result c.from_residual-in_err-edit.ensures.1 in
     rw (p.1, p.2)
