@@ -8,8 +8,8 @@ ghost use Rattle.shares.specs.Reaches.{Reached, Noted};
 use crate::station::Station;
 use places::Places;
 
-// Each place but the starts has the place that leads to it, found before it: so a chain back ends at a start. Places and
-// no references, since the tables lie in fixed memory.
+// Each place but the starts has the place that leads to it, found before it: so a chain back ends at a start. What
+// stands beside other places means nothing. Places and no references, since the tables lie in fixed memory.
 #[derive(Clone, Copy)]
 pub(crate) struct Reach {
     pub(crate) places: Places,
@@ -42,6 +42,7 @@ impl Reach {
         ensures notes_just_these { Noted (has new) i (nth self.old.before) (nth self.new.before) }
     {
         self.places = self.places.union(new);
+        // no `for`: nothing else would call an iterator of a set's places
         let mut left = new;
         while let Some(j) = left.pop_first() {
             self.before[j] = i;

@@ -129,6 +129,7 @@ impl Station {
         ensures gives_a_widest_link { Widest linking.entry.width linking.entry.batches.now (nth self.now.blocks) j result.0 }
         ensures gives_its_blocks { result.1 ≡ nth self.now.blocks result.0 }
     {
+        // as `led_to`; max_by_key would give the last of equals
         let mut widest = 0;
         let mut most = 0;
         for (b, batch) in linking.batches.iter().enumerate() {

@@ -32,7 +32,7 @@ impl Plan {
         }
     }
 
-    // Its marks by the pace.
+    // The plan, read by the pace.
     fn paced<'a, P: Pace>(&'a self, pace: &'a P) -> Paced<'a, P>
         ensures reads_the_plan { result.plan.now ≡ self.now }
         ensures goes_by_the_pace { result.pace.now ≡ pace.now }

@@ -10,7 +10,8 @@ use crate::mark::Mark;
 use pace::Pace;
 use places::Places;
 
-// Each function asks that its machines stand, since that relates a place to the plan: no type of a place could keep it.
+// Each function asks that its machines stand and have their blocks. Sets of places give bare places, so a type of a place
+// with its plan would be made and proved anew at each, and be no plainer.
 #[derive_where(Clone, Copy)]
 pub(super) struct Paced<'a, P> {
     pub(super) plan: &'a Plan,
@@ -24,8 +25,7 @@ impl<'a, P: Pace> Paced<'a, P> {
         ensures finds_a_machine_that_is_not_exhausted { MatchOption result ((i : ℕ) → i < machines_at self.entry.plan.now → self.entry.plan.now.width ≤ load_at self.entry.plan.now i → has exhausted i ≡ true) (λ i. (i < machines_at self.entry.plan.now) × (self.entry.plan.now.width ≤ load_at self.entry.plan.now i) × (has exhausted i ≡ false)) }
         ensures finds_the_latest { IfSome result (λ i. LatestPlan (P.Pace.table self.entry.pace.now) self.entry.plan.now (has exhausted) i) }
     {
-        // no chain by max_by_key over the order of marks, nor a `for` over an iterator of the places: each misses the bar
-        // of speed
+        // no chain by max_by_key over the order of marks: it takes a twentieth more instructions and misses the bar of speed
         let mut left = self.plan.laden().minus(exhausted);
         let first = left.pop_first()?;
         Some(self.latest_of(left, first))
@@ -73,7 +73,6 @@ impl<'a, P: Pace> Paced<'a, P> {
     // Of the given machines, the one that would end `width` blocks more at the earliest mark.
     fn earliest(self, among: Places) -> Option<usize>
         requires stand { (k : ℕ) → has among k ≡ true → k < machines_at self.plan.now }
-        requires few { self.plan.now.width ≤ 1000000 }
         ensures finds_one_of_them { MatchOption result ((k : ℕ) → has among k ≡ false) (λ j. has among j ≡ true) }
         ensures finds_the_earliest { IfSome result (λ j. (k : ℕ) → has among k ≡ true → values_in (P.Pace.table self.entry.pace.now) self.entry.plan.now j (load_at self.entry.plan.now j + self.entry.plan.now.width) ≤ values_in (P.Pace.table self.entry.pace.now) self.entry.plan.now k (load_at self.entry.plan.now k + self.entry.plan.now.width)) }
     {
@@ -83,10 +82,10 @@ impl<'a, P: Pace> Paced<'a, P> {
         Some(self.earliest_of(left, first))
     }
 
-    // Of the given machines and the first one, the one that would end `width` blocks more at the earliest mark.
+    // Of the given machines and the first one, the one that would end `width` blocks more at the earliest mark. As
+    // `latest_of` but for the mark and the order: with these two as closures the contract is about relations, and no plainer.
     fn earliest_of(self, others: Places, first: usize) -> usize
         requires stand { (k : ℕ) → (has others k || k == first) ≡ true → k < machines_at self.plan.now }
-        requires few { self.plan.now.width ≤ 1000000 }
         ensures finds_one_of_them { (has others result || result == first) ≡ true }
         ensures finds_the_earliest { (k : ℕ) → (has others k || k == first) ≡ true → values_in (P.Pace.table self.entry.pace.now) self.entry.plan.now result (load_at self.entry.plan.now result + self.entry.plan.now.width) ≤ values_in (P.Pace.table self.entry.pace.now) self.entry.plan.now k (load_at self.entry.plan.now k + self.entry.plan.now.width) }
     {

@@ -37,7 +37,7 @@ impl Plan {
         ensures holds_machines_with_enough_blocks { (i : ℕ) → has result i ≡ (nat_lt i (machines_at self.now) && nat_le self.now.width (load_at self.now i)) }
     {
         let mut laden = Places::empty();
-        // over places, since they are what it gives: going through the stations would be no plainer
+        // over places, since they are what it gives: no plainer by going through the stations, some of which no machine has
         for i in 0..self.book.machines().len() {
             if self.load(i) >= self.width {
                 laden = laden.with(i);

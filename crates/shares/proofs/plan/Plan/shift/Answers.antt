@@ -41,6 +41,7 @@ invariant_of-self c =
       elsewhere = held_after (λ b i. has (holders_at (batches_in p.book) b) i) mv r.held p.elsewhere;
       adds_up = λ b l. moved_row _ c.args.batch from to c.args.blocks _ _ r.from_stands r.to_stands mv b ∙ p.adds_up b l;
       wide = p.wide;
+      few = p.few;
       linked = relinked ss from to c.lose.new.self c.gain.new.self lv lu r.apart c.of-linking.result c.of-linking.ensures.takes_the_batches c.of-linking.ensures.takes_the_width _ r.from_stands r.to_stands
           (rw is-from at c.lose.ensures.keeps_where_the_links_lead) (rw is-to at c.gain.ensures.keeps_where_the_links_lead) p.linked;
     }
