@@ -7,6 +7,7 @@
 use pace::{Backlog, Even, Lots, Meter};
 use planner::{Muster, OpenBook, Refusal};
 
+// A machine as C fills it: flat, and so no `Machine` with its `Terms`.
 #[repr(C)]
 #[derive(Clone, Copy)]
 pub struct MachineRow {

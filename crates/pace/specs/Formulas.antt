@@ -1,6 +1,8 @@
 -- What the formulas of the paces keep, and their capacities.
 use Rattle.std.specs.Prelude.{◌≡◌, ℕ, suc, ◌+◌, ◌-◌, ◌*◌, ◌/◌, ◌<◌, ◌≤◌, min, if◌then◌else◌, ◌==◌}
-use Rattle.std.proofs.Common.{ap, ◌∙◌, mul-le-mul, mul-le-mul_right, le-div_iff_mul-le, div-lt_iff_lt-mul, div-mul-le_self, zero-mul, mul-zero, add-mul, arith}
+use Rattle.std.proofs.Common.{ap, ◌∙◌, mul-le-mul, mul-le-mul_right, le-div_iff_mul-le, div-lt_iff_lt-mul, div-mul-le_self, zero-mul, mul-zero, add-mul, lt_of_mul-lt-mul_right, arith}
+use Rattle.std.specs.Int.{div_ceil}
+use Rattle.std.proofs.lemmas.Grind.{div_ceil_times}
 use Rattle.std.proofs.Math.Nat.{lt-div-mul-add, div-eq_of_lt}
 use Rattle.std.proofs.lemmas.Bool.{ne_eqb, cond-false}
 use Rattle.pace.specs.Moments.{capacity_of, rounded_up}
@@ -42,6 +44,15 @@ module _ (lot : ℕ) (some : 0 < lot) where
 
   pub rounded_rises : (k j : ℕ) → k ≤ j → rounded_up k lot ≤ rounded_up j lot
   rounded_rises k j le = rounded_least k ((j + (lot - 1)) / lot) (omega (arith, rounded_above j))
+
+  -- as the machine's division with rounding up has it
+  pub rounded_ceil : (k : ℕ) → div_ceil k lot * lot ≡ rounded_up k lot
+  rounded_ceil k =
+      let q : ℕ = (k + (lot - 1)) / lot in
+      let bounds = div_ceil_times k lot some in
+      let below : div_ceil k lot < q + 1 = lt_of_mul-lt-mul_right lot (omega (arith, bounds.1, rounded_above k, add-mul q 1 lot)) in
+      let at_most : div_ceil k lot * lot ≤ q * lot = mul-le-mul_right lot (omega (arith, below)) in
+      omega (arith, rounded_least k (div_ceil k lot) bounds.0, at_most)
 
   rounded_within : (k q : ℕ) → rounded_up k lot ≤ q → k ≤ q / lot * lot
   rounded_within k q le =

@@ -29,7 +29,7 @@ impl Pace for Lots {
 
     fn moment(&self, terms: Terms, k: u32) -> u64 {
         let lot = terms.lot.max(1) as u64;
-        let lots = (k.min(MOST_BLOCKS) as u64 + (lot - 1)) / lot;
+        let lots = (k.min(MOST_BLOCKS) as u64).div_ceil(lot);
         lots * lot * terms.ticks as u64
     }
 }

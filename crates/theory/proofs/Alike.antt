@@ -16,9 +16,6 @@ module _ {m : ℕ} {B C : Demand} (a : Alike m B C) where
   inside_alike : (S : ℕ → Bool) (b : ℕ) → b < B.batches → inside m B S b ≡ inside m C S b
   inside_alike S b lb = every_eq m _ _ (λ i li. ap (λ h. not h || S i) (a.same_holds b i lb li))
 
-  just_alike : (S : ℕ → Bool) (b : ℕ) → b < B.batches → just m B S b ≡ just m C S b
-  just_alike S b lb = every_eq m _ _ (λ i li. ap (λ h. agree h (S i)) (a.same_holds b i lb li))
-
   module _ (x : ℕ → ℕ → ℕ) where
     pub load_alike : (i : ℕ) → load B x i ≡ load C x i
     load_alike i = ap (λ n. total n (λ b. x b i)) a.same_batches
