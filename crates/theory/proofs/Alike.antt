@@ -1,7 +1,7 @@
 -- Demands that agree below m have the same loads, the same complete share-outs, closed sets and stable share-outs.
 use Rattle.std.proofs.Common.{◌≡◌, ℕ, suc, ◌<◌, Bool, not, ◌||◌, sym, ap, ◌∙◌, arith}
-use Rattle.theory.specs.Sums.{total, agree}
-use Rattle.theory.specs.ShareOuts.{Demand, Complete, Closed, Stable, load, inside, just}
+use Rattle.theory.specs.Sums.{total}
+use Rattle.theory.specs.ShareOuts.{Demand, Complete, Closed, Stable, load, inside}
 use Rattle.theory.proofs.Sums.{every_eq}
 
 pub record Alike (m : ℕ) (B C : Demand) : Type 0 where

@@ -1,13 +1,10 @@
 -- What a move of blocks does to the cells, the loads and the batches of a share-out.
-use Rattle.std.proofs.Common.{◌≡◌, ℕ, ◌+◌, ◌<◌, Bool, true, false, eqb, sym, ◌∙◌, inl, inr, arith}
+use Rattle.std.proofs.Common.{◌≡◌, ℕ, ◌<◌, Bool, true, false, eqb, ◌∙◌, inl, inr, arith}
 use Rattle.std.proofs.lemmas.Bool.{cases_eq, both_ways}
 use Rattle.std.proofs.lemmas.Bool.Decides.{nat_tests}
 use Rattle.theory.specs.Sums.{total, only}
 use Rattle.theory.specs.Moves.{at, Moved}
 use Rattle.theory.proofs.Sums.{total_eq, total_add, total_one}
-
-at_here : (c u a : ℕ) → at c u c u a ≡ a
-at_here c u a = grind (arith, nat_tests)
 
 pub at_off : (c u b q a : ℕ) → (q ≡ u → ⊥) → at c u b q a ≡ 0
 at_off c u b q a d = grind (arith, nat_tests)
