@@ -16,8 +16,6 @@ in_book b = standing_of b.book
 abbrev pub in_settled : {P : Type 0} → SettledBook P → Standing
 in_settled b = standing_of b.plan.book
 
--- A call that keeps the pace says so in a clause of its own: told in one equation with what stands, neither would go by
--- its name.
 abbrev pub muster_pace : {P : Type 0} → Muster P → P
 muster_pace m = m.pace
 

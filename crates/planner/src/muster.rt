@@ -10,6 +10,7 @@ use crate::open_book::OpenBook;
 use books::{Book, Machine, Refusal, Roster};
 use pace::{Meter, Terms};
 
+// In each state every call says that it keeps the pace: told in one equation with what stands, neither would go by its name.
 #[derive(Drop)]
 pub struct Muster<P> {
     pace: P,

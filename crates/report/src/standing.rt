@@ -30,7 +30,7 @@ pub(crate) fn print_batches(rt: &impl Print, book: &OpenBook<DayPace>) -> io::Re
     Ok(())
 }
 
-// Each set of holders once, where the first of its batches stands.
+// Each set of holders once, where the first of its batches stands. No map of sets: these would need an order or a hash.
 pub(crate) fn print_sets(rt: &impl Print, book: &OpenBook<DayPace>) -> io::Result<()> {
     println!(rt; "Blocks by set of holders")?;
     let batches = book.batches();
