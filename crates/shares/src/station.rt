@@ -82,6 +82,7 @@ impl Station {
     }
 
     // Takes blocks of the batch away, which may leave it no link.
+    #[tactic(auto, using(crate::proofs::Blocks::blocks_within))]
     pub(crate) fn lose(&mut self, linking: Linking, batch: usize, blocks: u32)
         requires stands { batch < length linking.batches.now }
         requires there { blocks ≤ nth self.old.blocks batch }

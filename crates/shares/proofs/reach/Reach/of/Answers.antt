@@ -1,11 +1,13 @@
 use Rattle.std.proofs.Common.{◌≡◌, Bool, false, ◌||◌, refl, ap, ◌∙◌, arith}
 use Rattle.places.specs.Has.{has}
 use Rattle.places.proofs.Digits.{has_low}
+use Rattle.shares.specs.Cells.{nth}
 use Rattle.shares.specs.Stations.{station_at, leads_to}
 use Rattle.shares.proofs.Blocks.{at_place}
 use Rattle.shares.specs.declared.station.Station.{Station}
-use Rattle.shares.proofs.Reaching.{searching_start, searching_same, searched, turned, left_same}
+use Rattle.shares.proofs.Reaching.{Turned, searching_start, searching_same, searched, turned, left_same}
 use Rattle.shares.proofs.reach.Reach.of.Goals as goal
+use Rattle.shares.proofs.reach.Reach.of.Goals.{After-union}
 
 pub loop-i-init : goal.loop-i-init
 loop-i-init c =
@@ -19,26 +21,25 @@ loop-i-init c =
     or_false : (a : Bool) → (a || false) ≡ a
     or_false a = grind arith
 
-pub loop-i-smaller : goal.loop-i-smaller
-loop-i-smaller c =
+-- what a turn of the loop leaves, before the layers change
+turn_of : (c : After-union) → Turned (leads_to c.args.stations.now) (has c.args.from) (has c.loop-i.reach.places) (has c.note.new.self.places) (has c.loop-i.layer) (has c.loop-i.found) (has c.pop_first.new.self) (has c.union.result) (nth c.note.new.self.before)
+turn_of c =
     let e = c.in-Some.ensures in
     let inv = c.loop-i.invariant in
     let led : c.next.result ≡ (station_at c.args.stations.now c.in-Some.i).next =
     c.next.ensures.gives_where_the_links_lead ∙ ap (λ (s : Station). s.next) (at_place c.args.stations.now c.in-Some.i _ (omega (arith, e.gives_the_lowest_place.below))) in
-    let turn = turned c.in-Some.i inv.0 inv.1 e.gives_the_lowest_place.held e.takes_just_this_place
+    turned c.in-Some.i inv.0 inv.1 e.gives_the_lowest_place.held e.takes_just_this_place
     (rw led at c.minus-new.ensures.holds_the_places_that_the_other_does_not) c.note.ensures.adds_the_places c.union.ensures.holds_the_places_of_either
-    (λ k. has_low c.minus-new.result k (omega arith)) c.note.ensures.notes_just_these in
+    (λ k. has_low c.minus-new.result k (omega arith)) c.note.ensures.notes_just_these
+
+pub loop-i-smaller : goal.loop-i-smaller
+loop-i-smaller c =
+    let turn = turn_of (goal.at.loop-i-smaller c).After-union in
     omega (arith, turn.less, left_same (has c.note.new.self.places) _ _ c.next_layer.ensures.keeps_all_places)
 
 pub loop-i-preserved : goal.loop-i-preserved
 loop-i-preserved c =
-    let e = c.in-Some.ensures in
-    let inv = c.loop-i.invariant in
-    let led : c.next.result ≡ (station_at c.args.stations.now c.in-Some.i).next =
-    c.next.ensures.gives_where_the_links_lead ∙ ap (λ (s : Station). s.next) (at_place c.args.stations.now c.in-Some.i _ (omega (arith, e.gives_the_lowest_place.below))) in
-    let turn = turned c.in-Some.i inv.0 inv.1 e.gives_the_lowest_place.held e.takes_just_this_place
-    (rw led at c.minus-new.ensures.holds_the_places_that_the_other_does_not) c.note.ensures.adds_the_places c.union.ensures.holds_the_places_of_either
-    (λ k. has_low c.minus-new.result k (omega arith)) c.note.ensures.notes_just_these in
+    let turn = turn_of (goal.at.loop-i-preserved c).After-union in
     let n = c.next_layer.ensures in
     (searching_same _ n.keeps_all_places turn.searching, n.keeps_both_apart turn.apart, n.has_a_layer_while_there_are_places)
 

@@ -1,12 +1,9 @@
 use Rattle.std.proofs.Common.{◌≡◌, ◌+◌, ◌-◌, ◌<◌, length, sym, ◌∙◌, arith}
 use Rattle.std.proofs.lemmas.List.{length-set}
 use Rattle.shares.specs.Cells.{nth}
-use Rattle.shares.proofs.Blocks.{blocks_within, put_fewer, sum_more}
+use Rattle.shares.proofs.Blocks.{put_fewer, sum_more}
 use Rattle.shares.proofs.Leading.{links_many}
 use Rattle.shares.proofs.station.Station.lose.Goals as goal
-
-pub overflow_sub-self-2 : goal.overflow_sub-self-2
-overflow_sub-self-2 c = omega (arith, c.requires.there, blocks_within c.args.self.now c.args.batch (omega (arith, c.requires.stands, c.args.linking.few)))
 
 pub invariant_of-self : goal.invariant_of-self
 invariant_of-self c =
@@ -18,14 +15,6 @@ invariant_of-self c =
       long = length-set s.blocks c.args.batch _ ∙ s.long;
       summed = omega (arith, s.summed, sum_more 128 c.args.batch c.args.blocks _ (nth s.blocks) b (put_fewer s.blocks c.args.batch _ l c.args.blocks v));
     }
-
-pub returns-then-self-batch-clause-takes_from_the_load : goal.returns-then-self-batch-clause-takes_from_the_load
-returns-then-self-batch-clause-takes_from_the_load c =
-    omega (arith, c.requires.there, blocks_within c.args.self.now c.args.batch (omega (arith, c.requires.stands, c.args.linking.few)))
-
-pub returns-else-self-batch-clause-takes_from_the_load : goal.returns-else-self-batch-clause-takes_from_the_load
-returns-else-self-batch-clause-takes_from_the_load c =
-    omega (arith, c.requires.there, blocks_within c.args.self.now c.args.batch (omega (arith, c.requires.stands, c.args.linking.few)))
 
 pub returns-else-self-batch-clause-keeps_where_the_links_lead : goal.returns-else-self-batch-clause-keeps_where_the_links_lead
 returns-else-self-batch-clause-keeps_where_the_links_lead c =
