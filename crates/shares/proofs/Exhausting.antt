@@ -1,10 +1,11 @@
 -- Machines that are exhausted stay so: no later move helps them.
-use Rattle.std.proofs.Common.{◌≡◌, ℕ, suc, ◌+◌, ◌-◌, ◌<◌, ◌≤◌, Bool, true, false, length, sym, ap, ◌∙◌, inl, inr, arith}
+use Rattle.std.proofs.Common.{◌≡◌, ℕ, suc, ◌+◌, ◌-◌, ◌<◌, ◌≤◌, Bool, true, false, length, ap, ◌∙◌, inl, inr, arith}
 use Rattle.std.proofs.lemmas.Bool.{cases_eq, cases_Bool, both_ways}
 use Rattle.pace.specs.declared.terms.Terms.{Terms}
 use Rattle.theory.specs.ShareOuts.{Demand}
 use Rattle.theory.specs.Moves.{Carried, Helps}
-use Rattle.theory.proofs.Sums.{climb, only_here, only_off}
+use Rattle.theory.proofs.Sums.{climb}
+use Rattle.theory.proofs.Moves.{carried_from, carried_to, carried_else}
 use Rattle.books.specs.declared.book.Book.{Book}
 use Rattle.books.specs.Views.{machines_in}
 use Rattle.shares.specs.Marks.{values}
@@ -42,17 +43,8 @@ module _ {d m : ℕ} {B : Demand} {p x : ℕ → ℕ → ℕ} {x' : ℕ → ℕ 
     (elsewhere : (b k : ℕ) → S k ≡ false → x' b k ≡ x b k) (apart : (k : ℕ) → C k ≡ true → S k ≡ false)
     (c : Carried i j a l l') (ci : C i ≡ false) (cj : C j ≡ false) (ne : i ≡ j → ⊥) (li : i < m) (lj : j < m)
     (pos : 0 < d) (da : d ≤ a) (le : a ≤ l i) (h : Helps p l i j a) where
-  same : (k : ℕ) → (k ≡ i → ⊥) → (k ≡ j → ⊥) → l' k ≡ l k
-  same k ni nj = omega (arith, c.loads k, only_off k i a ni, only_off k j a nj)
-
   kept : (k : ℕ) → C k ≡ true → l' k ≡ l k
-  kept k t = same k (λ e. both_ways (C k) (ap C e ∙ ci) t) (λ e. both_ways (C k) (ap C e ∙ cj) t)
-
-  less_i : l' i + a ≡ l i
-  less_i = omega (arith, c.loads i, only_here i a, only_off i j a ne)
-
-  more_j : l' j ≡ l j + a
-  more_j = omega (arith, c.loads j, only_here j a, only_off j i a (λ e. ne (sym e)))
+  kept k t = carried_else c k (λ e. both_ways (C k) (ap C e ∙ ci) t) (λ e. both_ways (C k) (ap C e ∙ cj) t)
 
   closed_still : (T : ℕ → Bool) → Within T C → ClosedBy d m B x T → ClosedBy d m B x' T
   closed_still T sub cl b k q lb lk lq tk h' hq = cl b k q lb lk lq tk (omega (arith, elsewhere b k (apart k (sub k tk)))) hq
@@ -62,19 +54,19 @@ module _ {d m : ℕ} {B : Demand} {p x : ℕ → ℕ → ℕ} {x' : ℕ → ℕ 
 
   far : (k q : ℕ) → k < m → q < m → C k ≡ false → d ≤ l' k → C q ≡ true → p k (l' k - d + 1) ≤ p q (l' q + d)
   far k q lk lq ck hk cq = elim (cases_eq k i) [
-    | inl e ↦ rw e (omega (arith, still_past q lq cq, climb (p i) (λ v. rises i v li) (l' i - d + 1) (l i - d + 1) (omega (arith, less_i))))
+    | inl e ↦ rw e (omega (arith, still_past q lq cq, climb (p i) (λ v. rises i v li) (l' i - d + 1) (l i - d + 1) (omega (arith, carried_from c ne))))
     | inr ni ↦ elim (cases_eq k j) [
       | inl e ↦ rw e (omega (
         arith,
         still_past q lq cq,
         h,
-        climb (p j) (λ v. rises j v lj) (l' j - d + 1) (l j + a) (omega (arith, more_j)),
+        climb (p j) (λ v. rises j v lj) (l' j - d + 1) (l j + a) (omega (arith, carried_to c ne)),
         climb (p i) (λ v. rises i v li) (l i - a + 1) (l i - d + 1) (omega arith),
       ))
       | inr nj ↦ omega (
         arith,
-        ex.far k q lk lq ck (omega (arith, same k ni nj)) cq,
-        ap (λ (v : ℕ). p k (v - d + 1)) (same k ni nj),
+        ex.far k q lk lq ck (omega (arith, carried_else c k ni nj)) cq,
+        ap (λ (v : ℕ). p k (v - d + 1)) (carried_else c k ni nj),
         ap (λ (v : ℕ). p q (v + d)) (kept q cq),
       )
     ]

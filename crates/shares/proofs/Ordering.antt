@@ -39,6 +39,9 @@ module _ (k : Book) (i j : ℕ) (a b : Mark) (li : i < length (machines_in k)) (
   pub not_later_marks : later a b ≡ false → value a ≤ value b
   not_later_marks = not_later_value a b (omega (arith, of-i, number_small k i li)) (omega (arith, of-j, number_small k j lj))
 
+  pub marks_compared : (later a b ≡ true → value b < value a) × (later a b ≡ false → value a ≤ value b)
+  marks_compared = (later_marks, not_later_marks)
+
 -- marks of a pace that never falls
 module _ (k : Book) (table : Terms → ℕ → ℕ) (up : (t : Terms) (j : ℕ) → Fit t → table t j ≤ table t (suc j)) where
   pub marks_rise : (i j : ℕ) → i < length (machines_in k) → values table (machines_in k) i j ≤ values table (machines_in k) i (suc j)

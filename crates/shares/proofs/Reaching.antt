@@ -1,6 +1,6 @@
 -- The steps of a search for a residual reach.
 use Rattle.std.proofs.Common.{◌≡◌, ℕ, ◌<◌, ◌≤◌, Bool, true, false, cond, not, ◌&&◌, ◌||◌, eqb, sym, refl, ap, ◌∙◌, inl, inr, arith}
-use Rattle.std.proofs.lemmas.Bool.{cases_eq, cases_Bool, both_ways, eq-eqb, ne_eqb}
+use Rattle.std.proofs.lemmas.Bool.{cases_eq, cases_Bool, both_ways, eq-eqb, ne_eqb, and_parts, and_right, not_from_true, or_left, or_right, or_from}
 use Rattle.places.specs.Has.{size}
 use Rattle.theory.specs.Sums.{total, only}
 use Rattle.theory.proofs.Sums.{total_eq, total_lt}
@@ -84,16 +84,10 @@ module _ {E : ℕ → ℕ → Bool} {from S todo : ℕ → Bool} {before : ℕ �
 
   -- a place of S' is one of S, or i leads to it
   which : (k : ℕ) → S' k ≡ true → S k ≡ false → (new k ≡ true) × (E i k ≡ true)
-  which k e f = let n : new k ≡ true = sym (ap (λ t. t || new k) f) ∙ sym (more k) ∙ e in (n, left_of (E i k) (S k) (sym (is_new k) ∙ n))
-    where
-      left_of : (a b : Bool) → (a && not b) ≡ true → a ≡ true
-      left_of a b h = grind arith
+  which k e f = let n : new k ≡ true = sym (ap (λ t. t || new k) f) ∙ sym (more k) ∙ e in (n, (and_parts _ _ (sym (is_new k) ∙ n)).0)
 
   not_new : (k : ℕ) → S k ≡ true → new k ≡ false
-  not_new k e = is_new k ∙ ap (λ t. E i k && not t) e ∙ none (E i k)
-    where
-      none : (a : Bool) → (a && not true) ≡ false
-      none a = grind arith
+  not_new k e = is_new k ∙ and_right (E i k) _ (not_from_true _ e)
 
   led_to : (k : ℕ) → E i k ≡ true → S' k ≡ true
   led_to k e = more k ∙ ap (λ t. S k || t) (is_new k) ∙ either (E i k) (S k) e
@@ -108,10 +102,7 @@ module _ {E : ℕ → ℕ → Bool} {from S todo : ℕ → Bool} {before : ℕ �
       was a b c f h = grind arith
 
   new_todo : (k : ℕ) → new k ≡ true → todo' k ≡ true
-  new_todo k e = now-todo k ∙ right (todo k && not (eqb k i)) (new k) e
-    where
-      right : (a b : Bool) → b ≡ true → (a || b) ≡ true
-      right a b h = grind arith
+  new_todo k e = now-todo k ∙ or_right (todo k && not (eqb k i)) (new k) e
 
   pub searching_less : left S' todo' < left S todo
   searching_less = total_lt 32 _ _ i (s.low i (s.found i hi)) (λ k _. each k) (here (S i) (S' i) (todo i) (todo' i) (s.found i hi) (old i (s.found i hi)) hi gone)
@@ -171,7 +162,7 @@ module _ {E : ℕ → ℕ → Bool} {from S todo : ℕ → Bool} {before : ℕ �
     searching_more = record {
       starts = λ k e. old k (s.starts k e);
       found = λ k e. elim (cases_Bool (new k)) [
-        | inl t ↦ more k ∙ right (S k) (new k) t
+        | inl t ↦ more k ∙ or_right (S k) (new k) t
         | inr f ↦ old k (s.found k (was (todo k) (eqb k i) (new k) f (sym (now-todo k) ∙ e)))
       ];
       low = λ k e. elim (cases_Bool (S k)) [ inl in-S ↦ s.low k in-S | inr out ↦ low-new k (which k e out).0 ];
@@ -194,9 +185,6 @@ module _ {E : ℕ → ℕ → Bool} {from S todo : ℕ → Bool} {before : ℕ �
       linked = λ k e f. elim (cases_Bool (S k)) [ inl in-S ↦ old_link k in-S (s.linked k in-S f) | inr out ↦ new_link k e out ];
     }
       where
-        right : (a b : Bool) → b ≡ true → (a || b) ≡ true
-        right a b h = grind arith
-
         was : (a b c : Bool) → c ≡ false → ((a && not b) || c) ≡ true → a ≡ true
         was a b c f h = grind arith
 
@@ -214,26 +202,17 @@ pub turned : {E : ℕ → ℕ → Bool} {from S S' L L' F F' new : ℕ → Bool}
 turned {E} {S = S} {S' = S'} {L = L} {L' = L'} {F = F} {F' = F'} {new = new} i s apart li takes is_new more found low n = record {
   searching = searching_more s i new S' (λ k. L' k || F' k) hi is_new more step low n;
   less = searching_less s i new S' (λ k. L' k || F' k) hi is_new more step low;
-  apart = λ k e. found k ∙ neither (F k) (new k) (apart k (was k e)) (is_new k ∙ out (E i k) (S k) (s.found k (either (L k) (F k) (was k e))));
+  apart = λ k e. found k ∙ or_from (F k) (new k) (apart k (was k e)) (is_new k ∙ and_right (E i k) _ (not_from_true _ (s.found k (or_left (L k) (F k) (was k e)))));
 }
   where
-    either : (a b : Bool) → a ≡ true → (a || b) ≡ true
-    either a b h = grind arith
-
     hi : (L i || F i) ≡ true
-    hi = either (L i) (F i) li
+    hi = or_left (L i) (F i) li
 
     step : (k : ℕ) → (L' k || F' k) ≡ (((L k || F k) && not (eqb k i)) || new k)
     step = todo_step L L' F F' new i apart li takes found
 
     was : (k : ℕ) → L' k ≡ true → L k ≡ true
     was = without_within L' L i takes
-
-    out : (a b : Bool) → b ≡ true → (a && not b) ≡ false
-    out a b h = grind arith
-
-    neither : (a b : Bool) → a ≡ false → b ≡ false → (a || b) ≡ false
-    neither a b e f = grind arith
 
 pub left_same : (S T U : ℕ → Bool) → ((k : ℕ) → T k ≡ U k) → left S T ≡ left S U
 left_same S T U same = total_eq 32 _ _ (λ k _. ap (λ t. cond (S k) (only t 1) 2) (same k))

@@ -4,6 +4,7 @@ use Rattle.std.proofs.lemmas.Bool.{cases_eq}
 use Rattle.theory.specs.Sums.{total, only}
 use Rattle.theory.specs.Moves.{Carried, Helps, total_of_marks}
 use Rattle.theory.proofs.Sums.{climb, total_eq, total_add, total_here, only_here, only_off}
+use Rattle.theory.proofs.Moves.{carried_from, carried_to, carried_else}
 
 total_split : (f : ℕ → ℕ) (n d : ℕ) → total (n + d) f ≡ total n f + total d (λ x. f (n + x))
 unfolding total
@@ -50,20 +51,13 @@ module _ (m : ℕ) (p : ℕ → ℕ → ℕ) (rises : (i k : ℕ) → i < m → 
     of : ℕ → ℕ → ℕ
     of k n = total n (λ q. p k (suc q))
 
-    less_i : l' i + a ≡ l i
-    less_i = omega (arith, c.loads i, only_here i a, only_off i j a ne)
-
-    more_j : l' j ≡ l j + a
-    more_j = omega (arith, c.loads j, only_here j a, only_off j i a (λ e. ne (sym e)))
-
     each : (k : ℕ) → of k (l' k) + only (eqb k i) gone ≡ of k (l k) + only (eqb k j) come
     unfolding gone come of
     each k = elim (cases_eq k i) [
-      | inl e ↦ rw e (omega (arith, only_here i gone, only_off i j come ne, total_split (λ q. p i (suc q)) (l' i) a, ap (of i) less_i))
+      | inl e ↦ rw e (omega (arith, only_here i gone, only_off i j come ne, total_split (λ q. p i (suc q)) (l' i) a, ap (of i) (carried_from c ne)))
       | inr d ↦ elim (cases_eq k j) [
-        | inl e ↦ rw e (omega (arith, only_here j come, only_off j i gone (λ s. ne (sym s)), total_split (λ q. p j (suc q)) (l j) a, ap (of j) more_j))
-        | inr f ↦ let same : l' k ≡ l k = omega (arith, c.loads k, only_off k i a d, only_off k j a f) in
-            omega (arith, only_off k i gone d, only_off k j come f, ap (of k) same)
+        | inl e ↦ rw e (omega (arith, only_here j come, only_off j i gone (λ s. ne (sym s)), total_split (λ q. p j (suc q)) (l j) a, ap (of j) (carried_to c ne)))
+        | inr f ↦ omega (arith, only_off k i gone d, only_off k j come f, ap (of k) (carried_else c k d f))
       ]
     ]
 
@@ -73,5 +67,5 @@ module _ (m : ℕ) (p : ℕ → ℕ → ℕ) (rises : (i k : ℕ) → i < m → 
       arith,
       total_moved m i j gone come (λ k. of k (l k)) (λ k. of k (l' k)) li lj each,
       total_lt a (λ x. p j (suc (l j + x))) (λ x. p i (suc (l' i + x)))
-          (λ x lx. omega (arith, h, up j (suc (l j + x)) (l j + a) lj (omega arith), up i (l i - a + 1) (suc (l' i + x)) li (omega (arith, less_i)))),
+          (λ x lx. omega (arith, h, up j (suc (l j + x)) (l j + a) lj (omega arith), up i (l i - a + 1) (suc (l' i + x)) li (omega (arith, carried_from c ne)))),
     )

@@ -1,10 +1,10 @@
 -- What a move of blocks does to the cells, the loads and the batches of a share-out.
-use Rattle.std.proofs.Common.{◌≡◌, ℕ, ◌<◌, Bool, true, false, eqb, ◌∙◌, inl, inr, arith}
+use Rattle.std.proofs.Common.{◌≡◌, ℕ, ◌+◌, ◌<◌, Bool, true, false, eqb, sym, ◌∙◌, inl, inr, arith}
 use Rattle.std.proofs.lemmas.Bool.{cases_eq, both_ways}
 use Rattle.std.proofs.lemmas.Bool.Decides.{nat_tests}
 use Rattle.theory.specs.Sums.{total, only}
-use Rattle.theory.specs.Moves.{at, Moved}
-use Rattle.theory.proofs.Sums.{total_eq, total_add, total_one}
+use Rattle.theory.specs.Moves.{at, Moved, Carried}
+use Rattle.theory.proofs.Sums.{total_eq, total_add, total_one, only_here, only_off}
 
 pub at_off : (c u b q a : ℕ) → (q ≡ u → ⊥) → at c u b q a ≡ 0
 at_off c u b q a d = grind (arith, nat_tests)
@@ -35,3 +35,14 @@ module _ {a c v u : ℕ} {x y : ℕ → ℕ → ℕ} (mv : Moved a c v u x y) wh
   -- off the two places, and off the batch, all is as it was
   pub moved_else : (q : ℕ) → (q ≡ v → ⊥) → (q ≡ u → ⊥) → (b : ℕ) → x b q ≡ y b q
   moved_else q nv nu b = omega (arith, mv.cells b q, at_off c v b q a nv, at_off c u b q a nu)
+
+-- the loads of the two places of a move, and of the others
+module _ {i j a : ℕ} {l l' : ℕ → ℕ} (c : Carried i j a l l') where
+  pub carried_from : (i ≡ j → ⊥) → l' i + a ≡ l i
+  carried_from ne = omega (arith, c.loads i, only_here i a, only_off i j a ne)
+
+  pub carried_to : (i ≡ j → ⊥) → l' j ≡ l j + a
+  carried_to ne = omega (arith, c.loads j, only_here j a, only_off j i a (λ e. ne (sym e)))
+
+  pub carried_else : (k : ℕ) → (k ≡ i → ⊥) → (k ≡ j → ⊥) → l' k ≡ l k
+  carried_else k ni nj = omega (arith, c.loads k, only_off k i a ni, only_off k j a nj)

@@ -1,6 +1,7 @@
 use Rattle.std.proofs.Common.{rules, tests, ◌≡◌, ◌<◌, filter, subst, sym, arith}
+use Rattle.std.proofs.iter.runs.Made.{chains}
 use Rattle.std.proofs.lemmas.Iterator.{YieldsList-from_slice, YieldsList-from_map}
-use Rattle.std.proofs.lemmas.Iterator.Consumers.{YieldsList-at, YieldsList-from_filter, sum_by_from_yields_List, fits_by_from_yields_list}
+use Rattle.std.proofs.lemmas.Iterator.Consumers.{YieldsList-at, YieldsList-from_filter, sum_by_from_yields_List}
 use Rattle.places.specs.Has.{has}
 use Rattle.books.specs.declared.batch.Batch.{Batch}
 use Rattle.books.specs.Ranges.{blocks_in}
@@ -10,14 +11,8 @@ use Rattle.report.proofs.sums.blocks_of_set.Goals as goal
 
 pub sum-requires-clause-fits : goal.sum-requires-clause-fits
 sum-requires-clause-fits c =
-    let bs = c.args.batches.now in
-    let h = c.args.holders in
-    let few : blocks_in (filter (has_just h) bs) < 4294967296 = omega (arith, counted_fits h bs) in
-    fits_by_from_yields_list (λ (b : Batch). b.blocks) (filter (has_just h) bs) c.map.result _
-    (YieldsList-from_map _ (λ (b : Batch). b.blocks)
-    (YieldsList-at c.map.ensures.source (YieldsList-from_filter _ (has_just h) (YieldsList-at c.filter.ensures.source (YieldsList-from_slice bs (cc))) c.filter.ensures.closure (λ x b q k. search (rules, tests))))
-    c.map.ensures.closure (λ x r q k. search (rules, tests)))
-    few
+    let few : blocks_in (filter (has_just c.args.holders) c.args.batches.now) < 4294967296 = omega (arith, counted_fits c.args.holders c.args.batches.now) in
+    search (rules, chains, few)
 
 pub returns : goal.returns
 returns c =
