@@ -3,6 +3,8 @@
 --   share p b i                    the blocks of the batch b that lie at the machine i, both by places
 --   load_at p i                    the blocks that lie at the machine i
 --   values_in table p              the marks of its machines as numbers
+--   value_back table p i           the mark, as a number, of the first of the last `width` blocks of machine i
+--   value_after table p i          the mark, as a number, at which machine i would end `width` blocks more
 --   helps table p i j a            machine j ends its next a blocks before machine i ends the first of its last a
 --   Outreach p C W S i ..          W is all that links of p lead to from machine i and from C, where no link leads out of C;
 --                                  S is what of it is not in C, and chains lead there from i within S
@@ -31,6 +33,12 @@ load_at p i = (station_at p.stations i).load
 
 abbrev pub values_in : (Terms → ℕ → ℕ) → Plan → ℕ → ℕ → ℕ
 values_in table p = values table (machines_in p.book)
+
+abbrev pub value_back : (Terms → ℕ → ℕ) → Plan → ℕ → ℕ
+value_back table p i = values_in table p i (load_at p i - p.width + 1)
+
+abbrev pub value_after : (Terms → ℕ → ℕ) → Plan → ℕ → ℕ
+value_after table p i = values_in table p i (load_at p i + p.width)
 
 abbrev pub helps : (Terms → ℕ → ℕ) → Plan → ℕ → ℕ → ℕ → Bool
 helps table p i j a =

@@ -3,7 +3,7 @@ ghost use Rattle.std.specs.Prelude.{◌≡◌, ℕ, ◌+◌, ◌-◌, ◌<◌, �
 ghost use Rattle.places.specs.Has.{has};
 ghost use Rattle.books.specs.Views.{machines_in};
 ghost use Rattle.shares.specs.Marks.{machine_at, mark_of};
-ghost use Rattle.shares.specs.Plans.{machines_at, load_at, values_in, helps, LatestPlan};
+ghost use Rattle.shares.specs.Plans.{machines_at, load_at, value_back, value_after, helps, LatestPlan};
 
 use super::Plan;
 use crate::mark::Mark;
@@ -36,7 +36,7 @@ impl<'a, P: Pace> Paced<'a, P> {
     fn latest_of(self, others: Places, first: usize) -> usize
         requires laden { (k : ℕ) → (has others k || k == first) ≡ true → (k < machines_at self.plan.now) × (self.plan.now.width ≤ load_at self.plan.now k) }
         ensures finds_one_of_them { (has others result || result == first) ≡ true }
-        ensures finds_the_latest { (k : ℕ) → (has others k || k == first) ≡ true → values_in (P.Pace.table self.entry.pace.now) self.entry.plan.now k (load_at self.entry.plan.now k - self.entry.plan.now.width + 1) ≤ values_in (P.Pace.table self.entry.pace.now) self.entry.plan.now result (load_at self.entry.plan.now result - self.entry.plan.now.width + 1) }
+        ensures finds_the_latest { (k : ℕ) → (has others k || k == first) ≡ true → value_back (P.Pace.table self.entry.pace.now) self.entry.plan.now k ≤ value_back (P.Pace.table self.entry.pace.now) self.entry.plan.now result }
     {
         let width = self.plan.width;
         let mut left = others;
@@ -57,7 +57,7 @@ impl<'a, P: Pace> Paced<'a, P> {
         requires stands { i < machines_at self.plan.now }
         requires laden { self.plan.now.width ≤ load_at self.plan.now i }
         requires stand { (k : ℕ) → has among k ≡ true → k < machines_at self.plan.now }
-        ensures finds_none_only_where_none_helps { IfNone result ((k : ℕ) → has among k ≡ true → values_in (P.Pace.table self.entry.pace.now) self.entry.plan.now i (load_at self.entry.plan.now i - self.entry.plan.now.width + 1) ≤ values_in (P.Pace.table self.entry.pace.now) self.entry.plan.now k (load_at self.entry.plan.now k + self.entry.plan.now.width)) }
+        ensures finds_none_only_where_none_helps { IfNone result ((k : ℕ) → has among k ≡ true → value_back (P.Pace.table self.entry.pace.now) self.entry.plan.now i ≤ value_after (P.Pace.table self.entry.pace.now) self.entry.plan.now k) }
         ensures finds_one_of_them { IfSome result (λ r. has among r.0 ≡ true) }
         ensures finds_one_that_helps { IfSome result (λ r. helps (P.Pace.table self.entry.pace.now) self.entry.plan.now i r.0 r.1 ≡ true) }
         ensures gives_the_width_at_least { IfSome result (λ r. self.entry.plan.now.width ≤ r.1) }
@@ -74,7 +74,7 @@ impl<'a, P: Pace> Paced<'a, P> {
     fn earliest(self, among: Places) -> Option<usize>
         requires stand { (k : ℕ) → has among k ≡ true → k < machines_at self.plan.now }
         ensures finds_one_of_them { MatchOption result ((k : ℕ) → has among k ≡ false) (λ j. has among j ≡ true) }
-        ensures finds_the_earliest { IfSome result (λ j. (k : ℕ) → has among k ≡ true → values_in (P.Pace.table self.entry.pace.now) self.entry.plan.now j (load_at self.entry.plan.now j + self.entry.plan.now.width) ≤ values_in (P.Pace.table self.entry.pace.now) self.entry.plan.now k (load_at self.entry.plan.now k + self.entry.plan.now.width)) }
+        ensures finds_the_earliest { IfSome result (λ j. (k : ℕ) → has among k ≡ true → value_after (P.Pace.table self.entry.pace.now) self.entry.plan.now j ≤ value_after (P.Pace.table self.entry.pace.now) self.entry.plan.now k) }
     {
         // as in `latest`: min_by_key misses the bar of speed
         let mut left = among;
@@ -87,7 +87,7 @@ impl<'a, P: Pace> Paced<'a, P> {
     fn earliest_of(self, others: Places, first: usize) -> usize
         requires stand { (k : ℕ) → (has others k || k == first) ≡ true → k < machines_at self.plan.now }
         ensures finds_one_of_them { (has others result || result == first) ≡ true }
-        ensures finds_the_earliest { (k : ℕ) → (has others k || k == first) ≡ true → values_in (P.Pace.table self.entry.pace.now) self.entry.plan.now result (load_at self.entry.plan.now result + self.entry.plan.now.width) ≤ values_in (P.Pace.table self.entry.pace.now) self.entry.plan.now k (load_at self.entry.plan.now k + self.entry.plan.now.width) }
+        ensures finds_the_earliest { (k : ℕ) → (has others k || k == first) ≡ true → value_after (P.Pace.table self.entry.pace.now) self.entry.plan.now result ≤ value_after (P.Pace.table self.entry.pace.now) self.entry.plan.now k }
     {
         let width = self.plan.width;
         let mut left = others;
