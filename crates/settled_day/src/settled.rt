@@ -1,7 +1,7 @@
 // What is read from a settled book, printed.
 use office_day::DayPace;
 use pace::Pace;
-use planner::SettledBook;
+use planner::{Refusal, SettledBook};
 use std::io;
 
 pub(crate) fn print_settled(
@@ -13,7 +13,7 @@ pub(crate) fn print_settled(
     print_shares(rt, book)?;
     match book.last_ending() {
         Ok(moment) => println!(rt; "Last ending {moment}"),
-        Err(refusal) => println!(rt; "  refused, {refusal}"),
+        Err(refusal) => print_refusal(rt, refusal),
     }
 }
 
@@ -26,7 +26,7 @@ fn print_loads(rt: &impl Print, book: &SettledBook<DayPace>, pace: &DayPace) -> 
                 let moment = pace.moment(machine.terms, load);
                 println!(rt; "  {number:>5} {load:>7} {moment:>11}")?;
             }
-            Err(refusal) => println!(rt; "  refused, {refusal}")?,
+            Err(refusal) => print_refusal(rt, refusal)?,
         }
     }
     Ok(())
@@ -52,6 +52,10 @@ fn print_share(
 ) -> io::Result<()> {
     match book.share(batch, machine) {
         Ok(blocks) => println!(rt; "  {batch:>5} {machine:>5} {blocks:>6}"),
-        Err(refusal) => println!(rt; "  refused, {refusal}"),
+        Err(refusal) => print_refusal(rt, refusal),
     }
+}
+
+fn print_refusal(rt: &impl Print, refusal: Refusal) -> io::Result<()> {
+    println!(rt; "  refused, {refusal}")
 }
