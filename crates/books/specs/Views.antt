@@ -7,6 +7,7 @@
 --   IsRead s n b      the batch with the number n stands in s, with the blocks and the holders of b
 --   IsAbsent s n      no batch with the number n stands in s
 use Rattle.std.specs.Prelude.{◌≡◌, ℕ, true, false, List, [], map}
+use Rattle.fixed.specs.Items.{items}
 use Rattle.places.specs.Has.{has}
 use Rattle.books.specs.declared.machine.Machine.{Machine}
 use Rattle.books.specs.declared.batch.Batch.{Batch}
@@ -17,7 +18,7 @@ use Rattle.books.specs.Numbers.{among}
 use Rattle.books.specs.Holders.{numbers_at}
 
 abbrev pub machines_of : Roster → List Machine
-machines_of r = r.machines.items
+machines_of r = items r.machines
 
 abbrev pub mustered : Roster → Standing
 mustered r = record { machines = machines_of r; batches = [] }
@@ -29,7 +30,7 @@ abbrev pub machines_in : Book → List Machine
 machines_in b = machines_of b.roster
 
 abbrev pub batches_in : Book → List Batch
-batches_in b = b.batches.items
+batches_in b = items b.batches
 
 abbrev pub standing_of : Book → Standing
 standing_of b = record { machines = machines_in b; batches = map (batch_of (machines_in b)) (batches_in b) }

@@ -1,6 +1,7 @@
 // The machines and the batches of a book, as plain tables, and the plain calls behind those of open and settled books.
 ghost use Rattle.std.specs.Prelude.{◌≡◌, ℕ, ◌+◌, ◌-◌, ◌≤◌, true, not, List, [], ◌∷◌, map, length, IfOk, OnOk, OnErr, if◌then◌else◌, Some, None, MatchResult, slice_index_or};
 ghost use Rattle.std.specs.List.{list_all};
+ghost use Rattle.fixed.specs.Items.{items};
 ghost use Rattle.books.specs.Numbers.{among, ascending, Found, Missing};
 ghost use Rattle.books.specs.Ranges.{batch_in_range, Manned, numbers_of, blocks_in};
 
@@ -10,21 +11,21 @@ use crate::lookup::{find, place_of};
 use crate::machine::Machine;
 use crate::refusal::{Refusal, refuse_if};
 use crate::roster::Roster;
-use arrayvec::ArrayVec;
+use fixed::FixedVec;
 use places::Places;
 
 #[derive(Drop)]
 pub struct Book {
     roster: Roster,
-    batches: ArrayVec<Batch, 128>,
+    batches: FixedVec<Batch, 128>,
     // of all batches together
     blocks: u32,
-    ghost ascends: { ascending (numbers_of batches.items) ≡ true },
-    ghost in_range: { list_all (batch_in_range (length roster.machines.items)) batches.items ≡ true },
-    ghost manned: { Manned (length roster.machines.items) batches.items },
-    ghost summed: { blocks_in batches.items ≡ blocks },
+    ghost ascends: { ascending (numbers_of (items batches)) ≡ true },
+    ghost in_range: { list_all (batch_in_range (length (items roster.machines))) (items batches) ≡ true },
+    ghost manned: { Manned (length (items roster.machines)) (items batches) },
+    ghost summed: { blocks_in (items batches) ≡ blocks },
     ghost limited: { blocks ≤ 1000000 },
-    ghost few: { length batches.items ≤ 128 },
+    ghost few: { length (items batches) ≤ 128 },
 }
 
 impl Book {
@@ -41,7 +42,7 @@ impl Book {
     {
         Book {
             roster,
-            batches: ArrayVec::new(),
+            batches: FixedVec::new(Batch::default()),
             blocks: 0,
         }
     }
@@ -178,10 +179,8 @@ impl Book {
     {
         match edit {
             Edit::Insert(at, batch) => self.batches.insert(at, batch),
-            Edit::Replace(at, batch) => self.batches[at] = batch,
-            Edit::Remove(at) => {
-                self.batches.remove(at);
-            }
+            Edit::Replace(at, batch) => self.batches.replace(at, batch),
+            Edit::Remove(at) => self.batches.remove(at),
         }
         self.blocks = blocks;
     }

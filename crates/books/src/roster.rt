@@ -2,6 +2,7 @@
 ghost use Rattle.std.specs.Prelude.{◌≡◌, ℕ, ◌<◌, ◌≤◌, true, not, [], length, is_ok, IfOk, OnOk, OnErr, if◌then◌else◌, Some, None, MatchResult};
 ghost use Rattle.std.specs.List.{list_all};
 ghost use Rattle.places.specs.Has.{has};
+ghost use Rattle.fixed.specs.Items.{items};
 ghost use Rattle.books.specs.Numbers.{among, ascending, outside, Found, Missing};
 ghost use Rattle.books.specs.Ranges.{machine_in_range};
 ghost use Rattle.books.specs.Standing.{machine_numbers};
@@ -9,15 +10,15 @@ ghost use Rattle.books.specs.Standing.{machine_numbers};
 use crate::lookup::{find, place_of};
 use crate::machine::Machine;
 use crate::refusal::{Refusal, refuse_if};
-use arrayvec::ArrayVec;
+use fixed::FixedVec;
 use places::Places;
 
 #[derive(Drop)]
 pub struct Roster {
-    machines: ArrayVec<Machine, 32>,
-    ghost ascends: { ascending (machine_numbers machines.items) ≡ true },
-    ghost in_range: { list_all machine_in_range machines.items ≡ true },
-    ghost few: { length machines.items ≤ 32 },
+    machines: FixedVec<Machine, 32>,
+    ghost ascends: { ascending (machine_numbers (items machines)) ≡ true },
+    ghost in_range: { list_all machine_in_range (items machines) ≡ true },
+    ghost few: { length (items machines) ≤ 32 },
 }
 
 impl Roster {
@@ -31,7 +32,7 @@ impl Roster {
         ensures holds_no_machine { machines_of result ≡ [] }
     {
         Roster {
-            machines: ArrayVec::new(),
+            machines: FixedVec::new(Machine::default()),
         }
     }
 
