@@ -1,12 +1,8 @@
 -- Lists in ascending number, and what the library's search and test say of them.
 use Rattle.std.specs.List.{IsAllAdjacentAnswer}
-use Rattle.std.specs.List.Sorted.{IsSearchInRange, IsBinarySearchResult, IsNonDecreasingBy}
-use Rattle.std.specs.Ordering.{nat_cmp, ordering_index, MatchOrdering}
-use Rattle.std.proofs.Common.{◌≡◌, ℕ, zero, suc, ◌+◌, ◌<◌, ◌≤◌, Bool, true, false, ltb, List, [], ◌∷◌, map, length, get_or, Result, Ok, Err, MatchResult, sym, refl, ap, ◌∙◌, subst, add-one, ⊎_elim, arith}
-use Rattle.std.proofs.lemmas.Cmp.{ranked}
-use Rattle.std.proofs.lemmas.List.{get_or-map, length-map}
+use Rattle.std.proofs.Common.{◌≡◌, ℕ, zero, suc, ◌+◌, ◌<◌, ◌≤◌, Bool, true, false, ltb, List, [], ◌∷◌, map, length, get_or, sym, refl, ap, ◌∙◌, subst, add-one, ⊎_elim, arith}
+use Rattle.std.proofs.lemmas.List.{get_or-map}
 use Rattle.std.proofs.lemmas.Bool.{and_parts, and_from, ltb-true, lt-ltb, cases_lt, cases_Bool, both_ways}
-use Rattle.std.proofs.lemmas.Bool.Decides.{nat_tests}
 use Rattle.books.specs.Numbers.{rising, ascending, Found, Missing}
 
 -- what a rising list has is above where it began
@@ -50,37 +46,31 @@ ascending_answer ns false pair =
 pub key_at : {R : Type 0} (key : R → ℕ) (rs : List R) (i : ℕ) (r : R) → i < length rs → r ≡ get_or rs i r → get_or (map key rs) i 0 ≡ key r
 key_at key rs i r lt is = get_or-map key rs i r 0 lt ∙ ap key (sym is)
 
--- some record, where there is one
-some_of : {R : Type 0} (rs : List R) (i : ℕ) → i < length rs → R
-some_of [] i lt = absurd (omega arith)
-some_of (r ∷ rs) i lt = r
+-- what a binary search for n has learned: n stands at no place below low, and at none from high on
+pub record Between (n : ℕ) (ns : List ℕ) (low high : ℕ) : Type 0 where
+  pub lower : (k : ℕ) → k < low → get_or ns k 0 < n
+  pub higher : (k : ℕ) → high ≤ k → k < length ns → n < get_or ns k 0
 
--- what a binary search by number finds among records in ascending number
-module _ {R : Type 0} (key : R → ℕ) (rs : List R) (n : ℕ) (up : ascending (map key rs) ≡ true) where
-  comparisons_rise : IsNonDecreasingBy (λ r. ordering_index (nat_cmp (key r) n)) rs
-  comparisons_rise i j d le lt =
-      let at_i = get_or-map key rs i d 0 (omega arith) in
-      let at_j = get_or-map key rs j d 0 lt in
-      let keys_rise : key (get_or rs i d) ≤ key (get_or rs j d) =
-      ⊎_elim (λ (less : i < j). omega (arith, at_i, at_j, ascending_lt (map key rs) up i j less (omega (arith, length-map rs key))))
-      (λ (ge : j ≤ i). let same : i ≡ j = omega arith in rw same (omega arith)) (cases_lt i j) in
-      grind (arith, nat_tests)
+pub between_none : (n : ℕ) (ns : List ℕ) (high : ℕ) → high ≡ length ns → Between n ns 0 high
+between_none n ns high end = record { lower = λ k lt. absurd (omega arith); higher = λ k ge lt. absurd (omega arith) }
 
-  -- the number at a place, by what it was compared to
-  compared : (i : ℕ) (lt : i < length rs) → MatchOrdering (nat_cmp (key (get_or rs i (some_of rs i lt))) n) (get_or (map key rs) i 0 < n) (get_or (map key rs) i 0 ≡ n) (n < get_or (map key rs) i 0)
-  compared i lt = rw (get_or-map key rs i (some_of rs i lt) 0 lt) (ranked _ n _ refl)
-
-  pub searched : (r : Result ℕ ℕ) → IsSearchInRange r (length rs) → IsBinarySearchResult (λ x. nat_cmp (key x) n) rs r → MatchResult r (Found n (map key rs)) (Missing n (map key rs))
-  searched (Ok i) within equal =
-      let here : get_or (map key rs) i 0 ≡ n = rw (equal (some_of rs i within)) at (compared i within) in
+module _ (n : ℕ) (ns : List ℕ) (low high middle : ℕ) (up : ascending ns ≡ true) (within : middle < length ns) where
+  pub between_above : Between n ns low high → get_or ns middle 0 < n → Between n ns (middle + 1) high
+  between_above b lt =
       record {
-        within = omega (arith, length-map rs key);
-        here = here;
-        lower = λ k lt. omega (arith, here, ascending_lt (map key rs) up k i lt (omega (arith, length-map rs key)));
+        lower = λ k below. ⊎_elim (λ (less : k < middle). omega (arith, ascending_lt ns up k middle less within)) (λ (ge : middle ≤ k). let e : k ≡ middle = omega arith in rw e lt) (cases_lt k middle);
+        higher = b.higher;
       }
-  searched (Err i) within parted =
+
+  pub between_below : Between n ns low high → n < get_or ns middle 0 → Between n ns low middle
+  between_below b lt =
       record {
-        within = omega (arith, length-map rs key);
-        lower = λ k lt. let inside : k < length rs = omega arith in rw ((parted comparisons_rise).0 k (some_of rs k inside) (omega arith) lt) at (compared k inside);
-        higher = λ k ge lt. let inside : k < length rs = omega (arith, length-map rs key) in rw ((parted comparisons_rise).1 k (some_of rs k inside) ge inside) at (compared k inside);
+        lower = b.lower;
+        higher = λ k ge below. ⊎_elim (λ (more : middle < k). omega (arith, ascending_lt ns up middle k more below)) (λ (le : k ≤ middle). let e : k ≡ middle = omega arith in rw e lt) (cases_lt middle k);
       }
+
+  pub between_found : get_or ns middle 0 ≡ n → Found n ns middle
+  between_found here = record { within = within; here = here; lower = λ k lt. omega (arith, ascending_lt ns up k middle lt within) }
+
+pub between_missing : (n : ℕ) (ns : List ℕ) (low high : ℕ) → Between n ns low high → low ≡ high → low ≤ length ns → Missing n ns low
+between_missing n ns low high b met within = record { within = within; lower = b.lower; higher = λ k ge lt. b.higher k (omega arith) lt }
