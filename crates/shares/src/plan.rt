@@ -1,5 +1,5 @@
 // A book's blocks, shared out among the machines that hold them.
-ghost use Rattle.std.specs.Prelude.{◌≡◌, ℕ, ◌<◌, ◌≤◌, false, length};
+ghost use Rattle.std.specs.Prelude.{◌≡◌, ℕ, ◌<◌, false, length};
 ghost use Rattle.places.specs.Has.{has};
 ghost use Rattle.theory.specs.Sums.{total};
 ghost use Rattle.books.specs.Ranges.{holders_at};
@@ -30,6 +30,5 @@ pub struct Plan {
     ghost elsewhere: { (b i : ℕ) → has (holders_at (batches_in book) b) i ≡ false → cell stations b i ≡ 0 },
     ghost adds_up: { (b : ℕ) → b < length (batches_in book) → total (length (machines_in book)) (cell stations b) ≡ (batch_at (batches_in book) b).blocks },
     ghost wide: { 0 < width },
-    ghost few: { width ≤ 1000000 },
     ghost linked: { (i j : ℕ) → i < length (machines_in book) → leads_to stations i j ≡ links width (batches_in book) (λ b. cell stations b i) j },
 }

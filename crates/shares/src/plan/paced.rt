@@ -70,9 +70,11 @@ impl<'a, P: Pace> Paced<'a, P> {
         Some((j, self.most(i, j)))
     }
 
-    // Of the given machines, the one that would end `width` blocks more at the earliest mark.
+    // Of the given machines, the one that would end `width` blocks more at the earliest mark. It asks for a width that fits,
+    // since the type of a plan takes any above 0.
     fn earliest(self, among: Places) -> Option<usize>
         requires stand { (k : ℕ) → has among k ≡ true → k < machines_at self.plan.now }
+        requires few { self.plan.now.width ≤ 1000000 }
         ensures finds_one_of_them { MatchOption result ((k : ℕ) → has among k ≡ false) (λ j. has among j ≡ true) }
         ensures finds_the_earliest { IfSome result (λ j. (k : ℕ) → has among k ≡ true → value_after (P.Pace.table self.entry.pace.now) self.entry.plan.now j ≤ value_after (P.Pace.table self.entry.pace.now) self.entry.plan.now k) }
     {
@@ -86,6 +88,7 @@ impl<'a, P: Pace> Paced<'a, P> {
     // `latest_of` but for the mark and the order: with these two as closures the contract is about relations, and no plainer.
     fn earliest_of(self, others: Places, first: usize) -> usize
         requires stand { (k : ℕ) → (has others k || k == first) ≡ true → k < machines_at self.plan.now }
+        requires few { self.plan.now.width ≤ 1000000 }
         ensures finds_one_of_them { (has others result || result == first) ≡ true }
         ensures finds_the_earliest { (k : ℕ) → (has others k || k == first) ≡ true → value_after (P.Pace.table self.entry.pace.now) self.entry.plan.now result ≤ value_after (P.Pace.table self.entry.pace.now) self.entry.plan.now k }
     {

@@ -1,5 +1,5 @@
 // The best share-out: a start, levelled at falling widths.
-ghost use Rattle.std.specs.Prelude.{◌≡◌, ℕ, ◌<◌, ◌≤◌, length};
+ghost use Rattle.std.specs.Prelude.{◌≡◌, ℕ, ◌<◌, length};
 ghost use Rattle.places.specs.Has.{Lowest};
 ghost use Rattle.books.specs.Ranges.{holders_at};
 ghost use Rattle.books.specs.Views.{batches_in};
@@ -45,7 +45,7 @@ impl Plan {
 
     // Counts links from so many blocks on.
     fn set_width(&mut self, width: u32)
-        requires wide { (0 < width) × (width ≤ 1000000) }
+        requires wide { 0 < width }
         ensures keeps_the_book { self.new.book ≡ self.old.book }
         ensures sets_the_width { self.new.width ≡ width }
     {

@@ -62,7 +62,6 @@ invariant_of-self c =
       elsewhere = held_after (λ b i. has (holders_at (batches_in p.book) b) i) (moves c) r.held p.elsewhere;
       adds_up = λ b l. moved_row _ c.args.batch from to c.args.blocks _ _ r.from_stands r.to_stands (moves c) b ∙ p.adds_up b l;
       wide = p.wide;
-      few = p.few;
       linked = relinked ss from to c.lose.new.self c.gain.new.self (from_in b) (to_in b) r.apart c.of-linking.result c.of-linking.ensures.takes_the_batches c.of-linking.ensures.takes_the_width _ r.from_stands r.to_stands
           (rw (from_had b) at c.lose.ensures.keeps_where_the_links_lead) (rw (to_had b) at c.gain.ensures.keeps_where_the_links_lead) p.linked;
     }

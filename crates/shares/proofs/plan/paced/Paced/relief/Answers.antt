@@ -3,7 +3,11 @@ use Rattle.books.specs.Views.{machines_in}
 use Rattle.shares.specs.Marks.{machine_at, mark_of}
 use Rattle.shares.specs.Plans.{load_at}
 use Rattle.shares.proofs.Ordering.{not_later_marks}
+use Rattle.shares.proofs.Planned.{load_few}
 use Rattle.shares.proofs.plan.paced.Paced.relief.Goals as goal
+
+pub earliest-requires-clause-few : goal.earliest-requires-clause-few
+earliest-requires-clause-few g c = omega (arith, c.requires.laden, load_few c.args.self.plan.now c.args.i c.requires.stands)
 
 pub returns-then-not-is_helped-clause-finds_none_only_where_none_helps :
     goal.returns-then-not-is_helped-clause-finds_none_only_where_none_helps
