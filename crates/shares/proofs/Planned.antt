@@ -35,3 +35,7 @@ module _ (p : Plan) where
 
   pub share_within : (b i : ℕ) → b < batches_at p → share p b i ≤ load_at p i
   share_within b i l = omega (arith, load_sum i, term_le (batches_at p) (λ c. share p c i) b l)
+
+  pub two_shares : (b i j : ℕ) → b < batches_at p → i < machines_at p → j < machines_at p → (i ≡ j → ⊥)
+      → share p b i + share p b j ≤ 1000000
+  two_shares b i j l li lj ne = omega (arith, share_within b i l, share_within b j l, two_loads i j li lj ne)

@@ -6,6 +6,9 @@ use Rattle.theory.specs.Sums.{total, only}
 use Rattle.theory.specs.Moves.{at, Moved, Carried}
 use Rattle.theory.proofs.Sums.{total_eq, total_add, total_one, only_here, only_off}
 
+at_here : (c u a : ℕ) → at c u c u a ≡ a
+at_here c u a = grind (arith, nat_tests)
+
 pub at_off : (c u b q a : ℕ) → (q ≡ u → ⊥) → at c u b q a ≡ 0
 at_off c u b q a d = grind (arith, nat_tests)
 
@@ -18,8 +21,24 @@ at_held H c u b q a held free = elim (cases_eq b c) [
   | inl e ↦ elim (cases_eq q u) [ inr d ↦ at_off c u b q a d | inl f ↦ absurd (both_ways (H c u) (rw (e, f) at free) held) ]
 ]
 
+-- a column and a row of `at`
+pub at_col : (n c u q a : ℕ) → c < n → total n (λ b. at c u b q a) ≡ only (eqb q u) a
+at_col n c u q a l = total_one n (λ b. at c u b q a) c l (λ b _. at_other c u b q a) ∙ grind (arith, nat_tests)
+
 pub at_row : (m c u b a : ℕ) → u < m → total m (λ q. at c u b q a) ≡ only (eqb b c) a
 at_row m c u b a l = total_one m (λ q. at c u b q a) u l (λ q _. at_off c u b q a) ∙ grind (arith, nat_tests)
+
+-- what a move does to the load of each place, and to the blocks of each batch
+pub moved_load : (n c v u a : ℕ) (x y : ℕ → ℕ → ℕ) → c < n → Moved a c v u x y
+    → (q : ℕ) → total n (λ b. y b q) + only (eqb q v) a ≡ total n (λ b. x b q) + only (eqb q u) a
+moved_load n c v u a x y l mv q = omega (
+  arith,
+  total_eq n _ _ (λ b _. mv.cells b q),
+  total_add n (λ b. y b q) (λ b. at c v b q a),
+  total_add n (λ b. x b q) (λ b. at c u b q a),
+  at_col n c v q a l,
+  at_col n c u q a l,
+)
 
 pub moved_row : (m c v u a : ℕ) (x y : ℕ → ℕ → ℕ) → v < m → u < m → Moved a c v u x y → (b : ℕ) → total m (y b) ≡ total m (x b)
 moved_row m c v u a x y lv lu mv b = omega (
@@ -35,6 +54,16 @@ module _ {a c v u : ℕ} {x y : ℕ → ℕ → ℕ} (mv : Moved a c v u x y) wh
   -- off the two places, and off the batch, all is as it was
   pub moved_else : (q : ℕ) → (q ≡ v → ⊥) → (q ≡ u → ⊥) → (b : ℕ) → x b q ≡ y b q
   moved_else q nv nu b = omega (arith, mv.cells b q, at_off c v b q a nv, at_off c u b q a nu)
+
+  pub moved_rest : (b : ℕ) → (b ≡ c → ⊥) → (q : ℕ) → x b q ≡ y b q
+  moved_rest b d q = omega (arith, mv.cells b q, at_other c v b q a d, at_other c u b q a d)
+
+  -- at the two places, of the batch
+  pub moved_from : (v ≡ u → ⊥) → y c v + a ≡ x c v
+  moved_from ne = omega (arith, mv.cells c v, at_off c u c v a ne, at_here c v a)
+
+  pub moved_to : (v ≡ u → ⊥) → y c u ≡ x c u + a
+  moved_to ne = omega (arith, mv.cells c u, at_off c v c u a (λ e. ne (sym e)), at_here c u a)
 
 -- the loads of the two places of a move, and of the others
 module _ {i j a : ℕ} {l l' : ℕ → ℕ} (c : Carried i j a l l') where
