@@ -29,6 +29,9 @@ pub in_range : (low high v : ℕ) → outside low high v ≡ false → (low ≤ 
 in_range low high v e =
     let parts = or_parts (ltb v low) (ltb high v) e in (ltb-false v low parts.0, ltb-false high v parts.1)
 
+pub range_from : (low high v : ℕ) → low ≤ v → v ≤ high → outside low high v ≡ false
+range_from low high v a b = grind (arith, nat_tests, a, b)
+
 same_refl : (ns : List ℕ) → same ns ns ≡ true
 same_refl [] = refl
 same_refl (n ∷ ns) = grind (arith, nat_tests, same_refl ns)

@@ -1,5 +1,5 @@
 -- One list of checks after another: a call is refused by the first check that applies.
-use Rattle.std.proofs.Common.{◌≡◌, ℕ, true, false, List, [], ◌∷◌, ◌++◌, Some, None, Option, sym, ◌∙◌, ⊎_elim, arith}
+use Rattle.std.proofs.Common.{◌≡◌, ℕ, true, false, List, [], ◌∷◌, ◌++◌, Some, None, Option, Bool, cond, refl, sym, ◌∙◌, ⊎_elim, arith}
 use Rattle.std.proofs.lemmas.Bool.{cond-true, cond-false, cases_Bool}
 use Rattle.books.specs.declared.refusal.Refusal.{Refusal}
 use Rattle.books.specs.Standing.{Standing}
@@ -32,3 +32,12 @@ module _ (h : Handed) (s : Standing) where
       (λ applies. applying r rs e applies ∙ sym (cond-true ((case_of r).applies h s) (Some r) (first_of (rs ++ more) h s) applies))
       (λ applies_not. told_among rs more (e ∙ passing_by r rs applies_not) ∙ sym (passing_by r (rs ++ more) applies_not))
       (cases_Bool ((case_of r).applies h s))
+
+pub passed : {p : Bool} (r : Refusal) → None ≡ cond p (Some r) None → p ≡ false
+passed {p = true} r none = absurd (none_is_not_some r none)
+passed {p = false} r none = refl
+
+-- where none of some checks applies, the first one does not
+pub first_passed : (r : Refusal) (rs : List Refusal) (h : Handed) (s : Standing) → None ≡ first_of (r ∷ rs) h s → (case_of r).applies h s ≡ false
+first_passed r rs h s none =
+    ⊎_elim (λ applies. absurd (none_is_not_some r (applying h s r rs none applies))) (λ applies_not. applies_not) (cases_Bool ((case_of r).applies h s))

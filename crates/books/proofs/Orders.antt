@@ -1,4 +1,4 @@
--- Lists in ascending number, and what the library's search and test say of them.
+-- Lists in ascending number, what the library's test says of them, and what a binary search learns.
 use Rattle.std.specs.List.{IsAllAdjacentAnswer}
 use Rattle.std.proofs.Common.{◌≡◌, ℕ, zero, suc, ◌+◌, ◌<◌, ◌≤◌, Bool, true, false, ltb, List, [], ◌∷◌, map, length, get_or, sym, refl, ap, ◌∙◌, subst, add-one, ⊎_elim, arith}
 use Rattle.std.proofs.lemmas.List.{get_or-map}
